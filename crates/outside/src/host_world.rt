@@ -1,0 +1,274 @@
+//! The world of a process: files, standard streams and the system's clock. It tells no bytes.
+ghost use Rattle.std.specs.Prelude.{◌≡◌, Some, None, IsErrOf, OnOk, option_map, find, string_bytes};
+ghost use Rattle.std.specs.Str.{bytes_eq};
+ghost use Rattle.outside.specs.Host.{source_left, source_faults, sink_faults, image_content, image_size, image_faults, host_ledger, host_sizes};
+
+use crate::counters::Counters;
+use crate::{
+    Failed, FileImage, FileSink, FileSource, Image, OpenError, Role, Sink, Source, StdClock,
+    StdSink, StdSource, World,
+};
+
+/// A source of the host. `Nothing` is at its end, and tells so.
+#[derive(Drop)]
+pub enum HostSource {
+    Standard(StdSource),
+    File(FileSource),
+    Nothing,
+}
+
+impl HostSource {
+    fn faults(&self) -> u64
+        ensures { result ≡ source_faults self.now }
+    {
+        match self {
+            HostSource::Standard(source) => source.faults(),
+            HostSource::File(source) => source.faults(),
+            HostSource::Nothing => 0,
+        }
+    }
+}
+
+impl Source for HostSource {
+    ghost left = { source_left };
+
+    ghost faults = { source_faults };
+
+    fn read(&mut self, buf: &mut [u8]) -> Result<usize, Failed> {
+        match self {
+            HostSource::Standard(source) => source.read(buf),
+            HostSource::File(source) => source.read(buf),
+            HostSource::Nothing => Ok(0),
+        }
+    }
+}
+
+/// A sink of the host. `Nothing` drops what it takes.
+#[derive(Drop)]
+pub enum HostSink {
+    Standard(StdSink),
+    File(FileSink),
+    Nothing,
+}
+
+impl HostSink {
+    fn faults(&self) -> u64
+        ensures { result ≡ sink_faults self.now }
+    {
+        match self {
+            HostSink::Standard(sink) => sink.faults(),
+            HostSink::File(sink) => sink.faults(),
+            HostSink::Nothing => 0,
+        }
+    }
+}
+
+impl Sink for HostSink {
+    ghost taken = { λ _. None };
+
+    ghost faults = { sink_faults };
+
+    fn write(&mut self, bytes: &[u8]) -> Result<usize, Failed> {
+        match self {
+            HostSink::Standard(sink) => sink.write(bytes),
+            HostSink::File(sink) => sink.write(bytes),
+            HostSink::Nothing => Ok(bytes.len()),
+        }
+    }
+}
+
+/// An image of the host. `Nothing` has length 0, and tells so.
+#[derive(Drop)]
+pub enum HostImage {
+    File(FileImage),
+    Nothing,
+}
+
+impl HostImage {
+    fn faults(&self) -> u64
+        ensures { result ≡ image_faults self.now }
+    {
+        match self {
+            HostImage::File(image) => image.faults(),
+            HostImage::Nothing => 0,
+        }
+    }
+}
+
+impl Image for HostImage {
+    ghost content = { image_content };
+
+    ghost size = { image_size };
+
+    ghost faults = { image_faults };
+
+    fn len(&self) -> u64 {
+        match self {
+            HostImage::File(image) => image.len(),
+            HostImage::Nothing => 0,
+        }
+    }
+
+    fn read_at(&mut self, at: u64, buf: &mut [u8]) -> Result<(), Failed> {
+        match self {
+            HostImage::File(image) => image.read_at(at, buf),
+            HostImage::Nothing => Ok(()),
+        }
+    }
+}
+
+/// An image's name, and the length that it had when it was first opened.
+#[derive(Drop)]
+struct NamedLength {
+    name: String,
+    len: u64,
+}
+
+/// The world of a process. It tells nothing of names, standard input and devices given back. An
+/// image that is opened again with another length is a fault of opening.
+#[derive(Drop)]
+pub struct HostWorld {
+    rt: HostRuntime,
+    counters: Counters,
+    lengths: Vec<NamedLength>,
+}
+
+fn length_of(lengths: &[NamedLength], name: &str) -> Option<u64>
+    ensures { result
+        ≡ option_map (λ l. l.len)
+        (find (λ l. bytes_eq (string_bytes l.name) name.now) lengths.now) }
+{
+    lengths
+        .iter()
+        .find(|known| known.name.as_str() == name)
+        .map(|known| known.len)
+}
+
+impl HostWorld {
+    ghost use Rattle.outside.specs.Causes.{one_more};
+    ghost use Rattle.outside.specs.Ledger.{opening_fails, IsNew, KeepsSizes};
+
+    /// The world of this process, where nothing was opened yet.
+    pub fn new(rt: HostRuntime) -> Self
+        ensures { IsNew (host_ledger result) }
+    {
+        HostWorld {
+            rt,
+            counters: Counters::new(),
+            lengths: Vec::new(rt.alloc()),
+        }
+    }
+
+    // Counts an opening that failed.
+    fn refuse(&mut self) -> OpenError
+        ensures answer { result ≡ OpenError.Failed }
+        ensures counted { self.new ≡ record self.old {
+          counters = record self.old.counters {
+            opening_faults = one_more self.old.counters.opening_faults;
+          };
+        } }
+    {
+        self.counters.opening_failed();
+        OpenError::Failed
+    }
+
+    // Keeps the length of an image. Where it had another, opening failed.
+    fn note_length(&mut self, name: &str, len: u64) -> Result<(), OpenError>
+        ensures ok { OnOk result (host_ledger self.new ≡ host_ledger self.old) }
+        ensures size { OnOk result (host_sizes self.new name.now ≡ Some len) }
+        ensures failed { IsErrOf result OpenError.Failed
+            → host_ledger self.new ≡ opening_fails (host_ledger self.old) }
+        ensures memory { IsErrOf result OpenError.NoMemory
+            → host_ledger self.new ≡ host_ledger self.old }
+        ensures sizes { KeepsSizes (host_sizes self.old) (host_sizes self.new) }
+    {
+        match length_of(&self.lengths, name) {
+            Some(known) if known == len => Ok(()),
+            Some(_) => Err(self.refuse()),
+            None => {
+                let name = String::from_str(self.rt.alloc(), name)?;
+                match self.lengths.insert(0, NamedLength { name, len }) {
+                    Ok(()) => Ok(()),
+                    Err(_) => Err(OpenError::NoMemory),
+                }
+            }
+        }
+    }
+}
+
+impl World for HostWorld {
+    type Source = HostSource;
+
+    type Sink = HostSink;
+
+    type Image = HostImage;
+
+    type Clock = StdClock;
+
+    ghost ledger = { host_ledger };
+
+    ghost sizes = { host_sizes };
+
+    fn source(&mut self, role: Role, name: Option<&str>) -> Result<HostSource, OpenError> {
+        let source = match (name, role) {
+            (Some(name), _) => match FileSource::open(self.rt, name) {
+                Ok(source) => HostSource::File(source),
+                Err(Failed) => return Err(self.refuse()),
+            },
+            (None, Role::ConsoleIn) => HostSource::Standard(StdSource::new(self.rt)),
+            (None, _) => HostSource::Nothing,
+        };
+        self.counters.open(role);
+        Ok(source)
+    }
+
+    fn sink(&mut self, role: Role, name: Option<&str>) -> Result<HostSink, OpenError> {
+        let sink = match (name, role) {
+            (Some(name), _) => match FileSink::create(self.rt, name) {
+                Ok(sink) => HostSink::File(sink),
+                Err(Failed) => return Err(self.refuse()),
+            },
+            (None, Role::ConsoleOut) => HostSink::Standard(StdSink::output(self.rt)),
+            (None, Role::Messages) => HostSink::Standard(StdSink::errors(self.rt)),
+            (None, _) => HostSink::Nothing,
+        };
+        self.counters.open(role);
+        Ok(sink)
+    }
+
+    fn image(&mut self, name: Option<&str>) -> Result<HostImage, OpenError> {
+        let image = match name {
+            Some(name) => match FileImage::open(self.rt, name) {
+                Ok(image) => {
+                    self.note_length(name, image.len())?;
+                    HostImage::File(image)
+                }
+                Err(Failed) => return Err(self.refuse()),
+            },
+            None => HostImage::Nothing,
+        };
+        self.counters.open_disk();
+        Ok(image)
+    }
+
+    fn clock(&mut self) -> StdClock {
+        self.counters.open_clock();
+        StdClock::new(self.rt)
+    }
+
+    fn take_source(&mut self, role: Role, source: HostSource) {
+        self.counters.give_back(role, source.faults());
+    }
+
+    fn take_sink(&mut self, role: Role, sink: HostSink) {
+        self.counters.give_back(role, sink.faults());
+    }
+
+    fn take_image(&mut self, image: HostImage) {
+        self.counters.give_disk_back(image.faults());
+    }
+
+    fn take_clock(&mut self, clock: StdClock) {
+        self.counters.give_clock_back();
+    }
+}
