@@ -1,0 +1,13 @@
+pub mod Exact
+pub mod Numbers
+pub mod Spelled
+pub mod Spells
+pub mod Places
+pub mod Widths
+pub mod HeaderLaws
+pub mod Pieces
+pub mod Gathered
+pub mod Flow
+pub mod Pieced
+pub mod Written
+pub mod FrontLemmas

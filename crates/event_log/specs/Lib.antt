@@ -1,0 +1,9 @@
+pub mod Grammar
+pub mod Fields
+pub mod Spelling
+pub mod Fronts
+pub mod Log
+pub mod HeaderFormat
+pub mod Streams
+pub mod Writing
+pub mod Reading
