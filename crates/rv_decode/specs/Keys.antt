@@ -1,0 +1,16 @@
+-- What a search among rows of one mask gives, by the bits of a word under it.
+use Rattle.std.specs.Prelude.{ℕ, List, [], ◌∷◌, ◌==◌, Option, Some, None, if◌then◌else◌}
+use Rattle.rv_decode.specs.declared.op.Op.{Op}
+use Rattle.rv_decode.specs.declared.format.Format.{Format}
+use Rattle.rv_decode.specs.Table.{Row}
+
+-- the operation and format of the first row with these bits
+abbrev pub keyed : List Row → ℕ → Option (Op × Format)
+keyed [] key = None
+keyed (row ∷ rows) key =
+    if key == row.bits then Some (row.op, row.format) else keyed rows key
+
+-- the operation and format of a row, where there is one
+abbrev pub meaning : Option Row → Option (Op × Format)
+meaning None = None
+meaning (Some row) = Some (row.op, row.format)

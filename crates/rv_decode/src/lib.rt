@@ -1,0 +1,19 @@
+//! Instruction words of RV32IMA with Zicsr, Zifencei and machine mode, decoded.
+//!
+//! `decode(0x40000033)` is `SUB` with the registers 0, 0 and 0, and `decode(0x40001033)` is none.
+#![tactic(auto)]
+
+mod decoder;
+mod fields;
+mod format;
+mod ins;
+mod keys;
+mod lookup;
+mod op;
+
+pub use decoder::decode;
+pub use ins::Ins;
+pub use op::Op;
+
+#[cfg(test)]
+mod tests;
