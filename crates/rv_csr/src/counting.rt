@@ -1,0 +1,22 @@
+//! The counters of turns and of retired instructions.
+ghost use Rattle.std.specs.Prelude.{◌≡◌};
+ghost use Rattle.rv_csr.specs.Table.{ticked};
+
+use crate::csrs::Csrs;
+
+impl Csrs {
+    /// Counts a turn, and the instruction where it retired. A counter that the turn wrote stays as
+    /// written.
+    pub fn tick(&mut self, retired: bool)
+        ensures { self.new ≡ ticked self.old retired }
+    {
+        if !self.cycle_written {
+            self.cycle = self.cycle.wrapping_add(1);
+        }
+        if retired && !self.instret_written {
+            self.instret = self.instret.wrapping_add(1);
+        }
+        self.cycle_written = false;
+        self.instret_written = false;
+    }
+}
