@@ -1,0 +1,175 @@
+-- Which words an allowed line goes on with.
+use Rattle.std.proofs.Common.{◌≡◌, ℕ, ◌+◌, Bool, true, false, List, [], ◌∷◌, ◌++◌, Option, Some, None, refl, sym, ap, ◌∙◌, subst, codes, ◌⊎◌, inl, inr, ◌&&◌, if◌then◌else◌}
+use Rattle.std.specs.Str.{bytes_eq}
+use Rattle.std.proofs.lemmas.Slice.Eq.{bytes_eq-Decides}
+use Rattle.command_line.specs.Icount.{Icount}
+use Rattle.command_line.specs.Words.{Given, given_none, Key, IcountKey, BiosKey, RamKey, BudgetKey, SliceKey, with_value, key_of, Recording, Reading, Records, Bad, Early, Step, reading, follow, pair_step, value_step, last_word, at_end}
+use Rattle.command_line.specs.Grammar.{Choice, key_word, line_words, is_open, Adds}
+
+-- Keys.
+
+both_true : (a b : Bool) → (a && b) ≡ true → (a ≡ true) × (b ≡ true)
+both_true true true e = (refl, refl)
+both_true true false e = absurd (cc)
+both_true false b e = absurd (cc)
+
+abbrev pub Named : Given → List ℕ → Key → Type 0
+Named g w key = (w ≡ key_word key) × (is_open g key ≡ true)
+
+named : (g : Given) (w : List ℕ) (key : Key) → (bytes_eq w (key_word key) && is_open g key) ≡ true → Named g w key
+named g w key e = let k = both_true _ _ e in ((bytes_eq-Decides w (key_word key)).0 k.0, k.1)
+
+choose : (b : Bool) (key k : Key) (o : Option Key) (P : Key → Type 0) → (b ≡ true → P key) → (o ≡ Some k → P k) → (if b then Some key else o) ≡ Some k → P k
+choose true key k o P hit miss e = let same : key ≡ k = cc in subst P same (hit refl)
+choose false key k o P hit miss e = miss e
+
+no_more : (P : Key → Type 0) (k : Key) → ◌≡◌ {A = Option Key} None (Some k) → P k
+no_more P k e = absurd (cc)
+
+key_some : (g : Given) (w : List ℕ) (key : Key) → key_of g w ≡ Some key → Named g w key
+key_some g w k e =
+    choose _ IcountKey k _ (Named g w) (named g w IcountKey)
+    (choose _ BiosKey k _ (Named g w) (named g w BiosKey)
+    (choose _ RamKey k _ (Named g w) (named g w RamKey)
+    (choose _ BudgetKey k _ (Named g w) (named g w BudgetKey)
+    (choose _ SliceKey k _ (Named g w) (named g w SliceKey) (no_more (Named g w) k))))) e
+
+pub key_of-word : (g : Given) (key : Key) → is_open g key ≡ true → key_of g (key_word key) ≡ Some key
+key_of-word g IcountKey o = rw o refl
+key_of-word g BiosKey o = rw o refl
+key_of-word g RamKey o = rw o refl
+key_of-word g BudgetKey o = rw o refl
+key_of-word g SliceKey o = rw o refl
+
+key_none : (g : Given) (w : List ℕ) (key : Key) → key_of g w ≡ None → is_open g key ≡ true → w ≡ key_word key → ⊥
+key_none g w key e o p = let h : Some key ≡ None = sym (key_of-word g key o) ∙ sym (ap (key_of g) p) ∙ e in cc
+
+pub none_given : (key : Key) → is_open given_none key ≡ true
+none_given IcountKey = refl
+none_given BiosKey = refl
+none_given RamKey = refl
+none_given BudgetKey = refl
+none_given SliceKey = refl
+
+key_word_same : (k l : Key) → key_word k ≡ key_word l → k ≡ l
+key_word_same k l e =
+    let a : key_of given_none (key_word k) ≡ Some k = key_of-word given_none k (none_given k) in
+    let b : key_of given_none (key_word l) ≡ Some l = key_of-word given_none l (none_given l) in
+    let h : Some k ≡ Some l = sym a ∙ ap (key_of given_none) e ∙ b in cc
+
+-- Lines that go on.
+
+-- after the options g an allowed line goes on with these words
+pub record Continues (g : Given) (words : List (List ℕ)) : Type 0 where
+  pub rest : List (List ℕ)
+  pub choices : List Choice
+  pub last : Given
+  pub recording : Recording
+  pub spelled : line_words choices ≡ words ++ rest
+  pub adds : Adds g choices last
+  pub asks : at_end last ≡ Records recording
+
+-- a good value of `-icount`
+any_icount : List ℕ
+any_icount = codes "shift=0,rr=record,rrfile=x"
+
+-- from anywhere a line can be ended
+continues_from : (g : Given) (i : Option Icount) (b : Option (List ℕ)) → Continues (record g { icount = i; bios = b }) []
+unfolding any_icount
+continues_from g (Some i) (Some b) = record { rest = []; choices = []; last = _; recording = _; spelled = refl; adds = refl; asks = refl }
+continues_from g None (Some b) = record { rest = _; choices = record { key = IcountKey; value = any_icount } ∷ []; last = _; recording = _; spelled = refl; adds = (_, refl, refl, refl); asks = refl }
+continues_from g (Some i) None = record { rest = _; choices = record { key = BiosKey; value = 120 ∷ [] } ∷ []; last = _; recording = _; spelled = refl; adds = (_, refl, refl, refl); asks = refl }
+continues_from g None None = record { rest = _; choices = record { key = IcountKey; value = any_icount } ∷ record { key = BiosKey; value = 120 ∷ [] } ∷ []; last = _; recording = _; spelled = refl; adds = (_, refl, refl, (_, refl, refl, refl)); asks = refl }
+
+pub continues-nil : (g : Given) → Continues g []
+continues-nil g = continues_from g g.icount g.bios
+
+pub continues-pair : (g m : Given) (key : Key) (value : List ℕ) (words : List (List ℕ)) → is_open g key ≡ true → with_value g key value ≡ Some m → Continues m words
+    → Continues g (key_word key ∷ value ∷ words)
+continues-pair g m key value words o e h = record {
+  rest = h.rest;
+  choices = record { key = key; value = value } ∷ h.choices;
+  last = h.last;
+  recording = h.recording;
+  spelled = ap (λ l. key_word key ∷ value ∷ l) h.spelled;
+  adds = (m, o, e, h.adds);
+  asks = h.asks;
+}
+
+-- each option has a good value
+value_for : (g : Given) (key : Key) → (value : List ℕ) × (m : Given) × (with_value g key value ≡ Some m)
+unfolding any_icount
+value_for g IcountKey = (any_icount, _, refl)
+value_for g BiosKey = (120 ∷ [], _, refl)
+value_for g RamKey = (49 ∷ [], _, refl)
+value_for g BudgetKey = (49 ∷ [], _, refl)
+value_for g SliceKey = (49 ∷ [], _, refl)
+
+pub continues-key : (g : Given) (key : Key) → is_open g key ≡ true → Continues g (key_word key ∷ [])
+continues-key g key o =
+    let v = value_for g key in
+    let h = continues-pair g v.1 key v.0 [] o v.2 (continues-nil v.1) in
+    record { rest = v.0 ∷ h.rest; choices = h.choices; last = h.last; recording = h.recording; spelled = h.spelled; adds = h.adds; asks = h.asks }
+
+-- an allowed line begins with a key that is open
+pub begins : (g : Given) (w : List ℕ) (words : List (List ℕ)) (os : List Choice) (h : Given) → line_words os ≡ w ∷ words → Adds g os h → (key : Key) × Named g w key
+begins g w words [] h e a = absurd (cc)
+begins g w words (o ∷ os) h e a = let k : key_word o.key ≡ w = cc in (o.key, (sym k, a.1))
+
+pub no_key : (g : Given) (w : List ℕ) (words : List (List ℕ)) → key_of g w ≡ None → Continues g (w ∷ words) → ⊥
+no_key g w words e h = let b = begins g w (words ++ h.rest) h.choices h.last h.spelled h.adds in key_none g w b.0 e b.1.1 b.1.0
+
+pair_begins : (g : Given) (w v : List ℕ) (words : List (List ℕ)) (os : List Choice) (h : Given) → line_words os ≡ w ∷ v ∷ words → Adds g os h → (key : Key) → w ≡ key_word key
+    → (m : Given) × (rest : List Choice) × (with_value g key v ≡ Some m) × (line_words rest ≡ words) × Adds m rest h
+pair_begins g w v words [] h e a key p = absurd (cc)
+pair_begins g w v words (o ∷ os) h e a key p =
+    let k : key ≡ o.key = key_word_same key o.key (cc) in
+    let ev : o.value ≡ v = cc in
+    let er : line_words os ≡ words = cc in
+    (a.0, os, subst (λ x. with_value g x v ≡ Some a.0) (sym k) (subst (λ x. with_value g o.key x ≡ Some a.0) ev a.2), er, a.3)
+
+pub no_value : (g : Given) (w v : List ℕ) (words : List (List ℕ)) (key : Key) → w ≡ key_word key → with_value g key v ≡ None → Continues g (w ∷ v ∷ words) → ⊥
+no_value g w v words key p e h = let b = pair_begins g w v (words ++ h.rest) h.choices h.last h.spelled h.adds key p in let k = b.2 in cc
+
+pub continues-back : (g m : Given) (w v : List ℕ) (words : List (List ℕ)) (key : Key) → w ≡ key_word key → with_value g key v ≡ Some m → Continues g (w ∷ v ∷ words) → Continues m words
+continues-back g m w v words key p e h =
+    let b = pair_begins g w v (words ++ h.rest) h.choices h.last h.spelled h.adds key p in
+    let s : Some b.0 ≡ Some m = sym b.2 ∙ e in
+    let same : b.0 ≡ m = cc in
+    record { rest = h.rest; choices = b.1; last = h.last; recording = h.recording; spelled = b.3; adds = subst (λ x. Adds x b.1 h.last) same b.4; asks = h.asks }
+
+-- What words are read as.
+
+pub key_case : (o : Option Key) → (o ≡ None) ⊎ ((key : Key) × (o ≡ Some key))
+key_case None = inl refl
+key_case (Some key) = inr (key, refl)
+
+pub given_case : (o : Option Given) → (o ≡ None) ⊎ ((g : Given) × (o ≡ Some g))
+given_case None = inl refl
+given_case (Some g) = inr (g, refl)
+
+-- what a recursion over two words at a time shows of what they are read as
+pub read_cases : (P : Given → ℕ → List (List ℕ) → Reading → Type 0)
+    → ((g : Given) (k : ℕ) → P g k [] (at_end g))
+    → ((g : Given) (k : ℕ) (w : List ℕ) (words : List (List ℕ)) → key_of g w ≡ None → P g k (w ∷ words) (Bad k))
+    → ((g : Given) (k : ℕ) (w : List ℕ) (key : Key) → Named g w key → P g k (w ∷ []) Early)
+    → ((g : Given) (k : ℕ) (w v : List ℕ) (words : List (List ℕ)) (key : Key) → Named g w key → with_value g key v ≡ None → P g k (w ∷ v ∷ words) (Bad (k + 1)))
+    → ((g m : Given) (k : ℕ) (w v : List ℕ) (words : List (List ℕ)) (key : Key) (r : Reading) → Named g w key → with_value g key v ≡ Some m → P m (k + 2) words r → P g k (w ∷ v ∷ words) r)
+    → (words : List (List ℕ)) (g : Given) (k : ℕ) → P g k words (reading g k words)
+read_cases P ended unnamed early unfit more [] g k = ended g k
+read_cases P ended unnamed early unfit more (w ∷ []) g k =
+    elim (key_case (key_of g w)) [
+      | inl p ↦ subst (λ o. P g k (w ∷ []) (last_word k o)) (sym p) (unnamed g k w [] p)
+      | inr q ↦ subst (λ o. P g k (w ∷ []) (last_word k o)) (sym q.1) (early g k w q.0 (key_some g w q.0 q.1))
+    ]
+read_cases P ended unnamed early unfit more (w ∷ v ∷ words) g k =
+    let F : Step → Reading = λ s. follow s (λ h. reading h (k + 2) words) in
+    elim (key_case (key_of g w)) [
+      | inl p ↦ subst (λ o. P g k (w ∷ v ∷ words) (F (pair_step g k o v))) (sym p) (unnamed g k w (v ∷ words) p)
+      | inr q ↦ subst (λ o. P g k (w ∷ v ∷ words) (F (pair_step g k o v))) (sym q.1)
+          (elim (given_case (with_value g q.0 v)) [
+            | inl r ↦ subst (λ o. P g k (w ∷ v ∷ words) (F (value_step k o))) (sym r) (unfit g k w v words q.0 (key_some g w q.0 q.1) r)
+            | inr r ↦ subst (λ o. P g k (w ∷ v ∷ words) (F (value_step k o))) (sym r.1)
+                (more g r.0 k w v words q.0 _ (key_some g w q.0 q.1) r.1 (read_cases P ended unnamed early unfit more words r.0 (k + 2)))
+          ])
+    ]

@@ -1,0 +1,234 @@
+-- The laws on lines of words.
+use Rattle.std.proofs.Common.{◌≡◌, ℕ, ◌+◌, suc, ◌<◌, Bool, true, false, List, [], ◌∷◌, ◌++◌, Option, Some, None, length, take, refl, sym, ap, ◌∙◌, subst, arith, codes, ◌⊎◌, inl, inr, if◌then◌else◌}
+use Rattle.std.specs.Prelude.{⊤}
+use Rattle.std.specs.Str.{bytes_eq}
+use Rattle.std.proofs.lemmas.Slice.Eq.{bytes_eq-Decides}
+use Rattle.command_line.specs.Icount.{Icount}
+use Rattle.command_line.specs.Words.{Given, given_none, Key, with_value, key_of, Recording, Reading, Records, Help, Version, Bad, Early, Step, reading, follow, pair_step, value_step, at_end, recording, alone, reading_of, IsBadLine}
+use Rattle.command_line.specs.Grammar.{Choice, key_word, line_words, Adds, Asks, IsLine, GoesOn, IsFirstBad}
+use Rattle.command_line.proofs.GrammarLemmas.{Named, none_given, key_of-word, Continues, continues-nil, continues-pair, continues-key, continues-back, begins, no_key, no_value, read_cases}
+
+-- The first word.
+
+branch : {A : Type 0} (b : Bool) (x y : A) (P : A → Type 0) → (b ≡ true → P x) → (b ≡ false → P y) → P (if b then x else y)
+branch true x y P hit miss = hit refl
+branch false x y P hit miss = miss refl
+
+differ : (w x : List ℕ) → bytes_eq w x ≡ false → w ≡ x → ⊥
+differ w x e p = let t = (bytes_eq-Decides w x).1 p in let h : false ≡ true = sym e ∙ t in cc
+
+first_word : (w : List ℕ) (ws : List (List ℕ)) (P : Reading → Type 0) → (w ≡ codes "--help" → P (alone Help ws)) → (w ≡ codes "--version" → P (alone Version ws))
+    → ((w ≡ codes "--help" → ⊥) → (w ≡ codes "--version" → ⊥) → P (reading given_none 0 (w ∷ ws))) → P (reading_of (w ∷ ws))
+first_word w ws P help version plain =
+    branch (bytes_eq w (codes "--help")) _ _ P (λ e. help ((bytes_eq-Decides w (codes "--help")).0 e))
+    (λ d. branch (bytes_eq w (codes "--version")) _ _ P (λ e. version ((bytes_eq-Decides w (codes "--version")).0 e))
+    (λ e. plain (differ w (codes "--help") d) (differ w (codes "--version") e)))
+
+no_key-help : (key : Key) → codes "--help" ≡ key_word key → ⊥
+no_key-help key p = let h : None ≡ Some key = ap (key_of given_none) p ∙ key_of-word given_none key (none_given key) in cc
+
+no_key-version : (key : Key) → codes "--version" ≡ key_word key → ⊥
+no_key-version key p = let h : None ≡ Some key = ap (key_of given_none) p ∙ key_of-word given_none key (none_given key) in cc
+
+-- an allowed line of two words and more begins with a key
+line_key : (w v : List ℕ) (rest : List (List ℕ)) (m : Reading) → IsLine (w ∷ v ∷ rest) m → (key : Key) × (w ≡ key_word key)
+line_key w v rest (Records r) h = let b = begins given_none w (v ∷ rest) h.choices h.last h.spelled h.adds in (b.0, b.1.0)
+line_key w v rest Help h = absurd (cc)
+line_key w v rest Version h = absurd (cc)
+line_key w v rest (Bad k) h = absurd h
+line_key w v rest Early h = absurd h
+
+-- Lines that are read.
+
+abbrev ReadsAs : Given → ℕ → List (List ℕ) → Reading → Type 0
+ReadsAs g k words (Records r) = Asks g words r
+ReadsAs g k words Help = ⊥
+ReadsAs g k words Version = ⊥
+ReadsAs g k words (Bad n) = ⊤
+ReadsAs g k words Early = ⊤
+
+ended_reads : (g : Given) (k : ℕ) (i : Option Icount) (b : Option (List ℕ)) → ReadsAs (record g { icount = i; bios = b }) k [] (recording g i b)
+ended_reads g k (Some i) (Some b) = record { choices = []; last = _; spelled = refl; adds = refl; asks = refl }
+ended_reads g k (Some i) None = tt
+ended_reads g k None (Some b) = tt
+ended_reads g k None None = tt
+
+asks-pair : (g m : Given) (w v : List ℕ) (words : List (List ℕ)) (key : Key) (r : Recording) → Named g w key → with_value g key v ≡ Some m → Asks m words r → Asks g (w ∷ v ∷ words) r
+asks-pair g m w v words key r n e h = record {
+  choices = record { key = key; value = v } ∷ h.choices;
+  last = h.last;
+  spelled = ap (λ l. key_word key ∷ v ∷ l) h.spelled ∙ ap (λ x. x ∷ v ∷ words) (sym n.0);
+  adds = (m, n.1, e, h.adds);
+  asks = h.asks;
+}
+
+more_reads : (g m : Given) (k : ℕ) (w v : List ℕ) (words : List (List ℕ)) (key : Key) (r : Reading) → Named g w key → with_value g key v ≡ Some m → ReadsAs m (k + 2) words r → ReadsAs g k (w ∷ v ∷ words) r
+more_reads g m k w v words key (Records r) n e h = asks-pair g m w v words key r n e h
+more_reads g m k w v words key Help n e h = h
+more_reads g m k w v words key Version n e h = h
+more_reads g m k w v words key (Bad j) n e h = tt
+more_reads g m k w v words key Early n e h = tt
+
+plain_sound : (words : List (List ℕ)) (r : Reading) → ReadsAs given_none 0 words r → IsBadLine r ⊎ IsLine words r
+plain_sound words (Records r) h = inr h
+plain_sound words Help h = absurd h
+plain_sound words Version h = absurd h
+plain_sound words (Bad k) h = inl tt
+plain_sound words Early h = inl tt
+
+help_sound : (w : List ℕ) (ws : List (List ℕ)) → w ≡ codes "--help" → IsBadLine (alone Help ws) ⊎ IsLine (w ∷ ws) (alone Help ws)
+help_sound w [] p = inr (ap (λ x. x ∷ []) p)
+help_sound w (v ∷ vs) p = inl tt
+
+version_sound : (w : List ℕ) (ws : List (List ℕ)) → w ≡ codes "--version" → IsBadLine (alone Version ws) ⊎ IsLine (w ∷ ws) (alone Version ws)
+version_sound w [] p = inr (ap (λ x. x ∷ []) p)
+version_sound w (v ∷ vs) p = inl tt
+
+pub line_sound : (words : List (List ℕ)) → IsBadLine (reading_of words) ⊎ IsLine words (reading_of words)
+line_sound [] = inl tt
+line_sound (w ∷ ws) = first_word w ws (λ r. IsBadLine r ⊎ IsLine (w ∷ ws) r) (help_sound w ws) (version_sound w ws)
+    (λ d e. plain_sound (w ∷ ws) _ (read_cases ReadsAs (λ g k. ended_reads g k g.icount g.bios) (λ g k v vs p. tt) (λ g k v key n. tt) (λ g k v u vs key n p. tt) more_reads (w ∷ ws) given_none 0))
+
+-- the words of good options are read as what they ask for
+line_reads : (os : List Choice) (g h : Given) (k : ℕ) → Adds g os h → reading g k (line_words os) ≡ at_end h
+line_reads [] g h k a = ap at_end a
+line_reads (o ∷ os) g h k a =
+    let F : Step → Reading = λ s. follow s (λ m. reading m (k + 2) (line_words os)) in
+    ap (λ x. F (pair_step g k x o.value)) (key_of-word g o.key a.1) ∙ ap (λ x. F (value_step k x)) a.2 ∙ line_reads os a.0 h (k + 2) a.3
+
+options_read : (os : List Choice) (h : Given) (r : Recording) → Adds given_none os h → at_end h ≡ Records r → reading_of (line_words os) ≡ Records r
+options_read [] h r a e = let k : Early ≡ Records r = ap at_end a ∙ e in absurd (cc)
+options_read (o ∷ os) h r a e =
+    first_word (key_word o.key) (o.value ∷ line_words os) (λ x. x ≡ Records r) (λ p. absurd (no_key-help o.key (sym p))) (λ p. absurd (no_key-version o.key (sym p)))
+    (λ c d. line_reads (o ∷ os) given_none h 0 a ∙ e)
+
+pub line_complete : (words : List (List ℕ)) (m : Reading) → IsLine words m → reading_of words ≡ m
+line_complete words (Records r) h = ap reading_of (sym h.spelled) ∙ options_read h.choices h.last r h.adds h.asks
+line_complete words Help h = ap reading_of h
+line_complete words Version h = ap reading_of h
+line_complete words (Bad k) h = absurd h
+line_complete words Early h = absurd h
+
+-- The first bad word.
+
+record FirstBadFrom (g : Given) (words : List (List ℕ)) (j : ℕ) : Type 0 where
+  pub within : j < length words
+  pub before : Continues g (take j words)
+  pub bad : Continues g (take (suc j) words) → ⊥
+
+abbrev Found : Given → ℕ → List (List ℕ) → Reading → Type 0
+Found g k words r = (n : ℕ) → r ≡ Bad n → (j : ℕ) × (n ≡ k + j) × FirstBadFrom g words j
+
+not_bad : (g : Given) (i : Option Icount) (b : Option (List ℕ)) (n : ℕ) → recording g i b ≡ Bad n → ⊥
+not_bad g (Some i) (Some b) n e = cc
+not_bad g (Some i) None n e = cc
+not_bad g None (Some b) n e = cc
+not_bad g None None n e = cc
+
+-- the next word is no key
+bad_key : (g : Given) (k : ℕ) (w : List ℕ) (words : List (List ℕ)) → key_of g w ≡ None → Found g k (w ∷ words) (Bad k)
+bad_key g k w words e n p =
+    let same : k ≡ n = cc in
+    (0, omega arith, record { within = omega arith; before = continues-nil g; bad = λ h. no_key g w [] e h })
+
+-- the next word is a key, and the word after it is no value
+bad_value : (g : Given) (k : ℕ) (w v : List ℕ) (words : List (List ℕ)) (key : Key) → Named g w key → with_value g key v ≡ None → Found g k (w ∷ v ∷ words) (Bad (k + 1))
+bad_value g k w v words key t f n p =
+    let same : k + 1 ≡ n = cc in (
+      1,
+      omega arith,
+      record {
+        within = omega arith;
+        before = subst (λ x. Continues g (x ∷ [])) (sym t.0) (continues-key g key t.1);
+        bad = λ h. no_value g w v [] key t.0 f h;
+      },
+    )
+
+-- an option was read, and the bad word comes later
+bad_later : (g m : Given) (k : ℕ) (w v : List ℕ) (words : List (List ℕ)) (key : Key) (r : Reading) → Named g w key → with_value g key v ≡ Some m → Found m (k + 2) words r → Found g k (w ∷ v ∷ words) r
+bad_later g m k w v words key r t f found n p =
+    let h = found n p in
+    let b = h.2 in (
+      suc (suc h.0),
+      omega (arith, h.1),
+      record {
+        within = omega (arith, b.within);
+        before = subst (λ x. Continues g (x ∷ v ∷ take h.0 words)) (sym t.0) (continues-pair g m key v (take h.0 words) t.1 f b.before);
+        bad = λ q. b.bad (continues-back g m w v (take (suc h.0) words) key t.0 f q);
+      },
+    )
+
+found_bad : (words : List (List ℕ)) → Found given_none 0 words (reading given_none 0 words)
+found_bad words =
+    read_cases Found (λ g k n e. absurd (not_bad g g.icount g.bios n e)) bad_key (λ g k w key t n e. absurd (cc)) bad_value bad_later words given_none 0
+
+goes_on : (words : List (List ℕ)) → Continues given_none words → GoesOn words
+goes_on words h = record {
+  rest = h.rest;
+  meaning = Records h.recording;
+  line = record { choices = h.choices; last = h.last; spelled = h.spelled; adds = h.adds; asks = h.asks };
+}
+
+plain_line : (w : List ℕ) (words rest : List (List ℕ)) (m : Reading) → (w ≡ codes "--help" → ⊥) → (w ≡ codes "--version" → ⊥) → IsLine (w ∷ words ++ rest) m → Continues given_none (w ∷ words)
+plain_line w words rest (Records r) c d h = record { rest = rest; choices = h.choices; last = h.last; recording = r; spelled = h.spelled; adds = h.adds; asks = h.asks }
+plain_line w words rest Help c d h = absurd (c (cc))
+plain_line w words rest Version c d h = absurd (d (cc))
+plain_line w words rest (Bad k) c d h = absurd h
+plain_line w words rest Early c d h = absurd h
+
+plain_bad : (w : List ℕ) (ws : List (List ℕ)) → (w ≡ codes "--help" → ⊥) → (w ≡ codes "--version" → ⊥) → (k : ℕ) → reading given_none 0 (w ∷ ws) ≡ Bad k → IsFirstBad (w ∷ ws) k
+plain_bad w ws c d k e =
+    let h = found_bad (w ∷ ws) k e in
+    let b = h.2 in
+    let same : h.0 ≡ k = omega (arith, h.1) in
+    subst (IsFirstBad (w ∷ ws)) same (record {
+      within = b.within;
+      before = goes_on (take h.0 (w ∷ ws)) b.before;
+      bad = λ q. b.bad (plain_line w (take h.0 ws) q.rest q.meaning c d q.line);
+    })
+
+help_bad : (w : List ℕ) (ws : List (List ℕ)) → w ≡ codes "--help" → (k : ℕ) → alone Help ws ≡ Bad k → IsFirstBad (w ∷ ws) k
+help_bad w [] p k e = absurd (cc)
+help_bad w (v ∷ vs) p k e =
+    let same : 1 ≡ k = cc in
+    subst (IsFirstBad (w ∷ v ∷ vs)) same (record {
+      within = omega arith;
+      before = record { rest = []; meaning = Help; line = ap (λ x. x ∷ []) p };
+      bad = λ q. let b = line_key w v q.rest q.meaning q.line in no_key-help b.0 (sym p ∙ b.1);
+    })
+
+version_bad : (w : List ℕ) (ws : List (List ℕ)) → w ≡ codes "--version" → (k : ℕ) → alone Version ws ≡ Bad k → IsFirstBad (w ∷ ws) k
+version_bad w [] p k e = absurd (cc)
+version_bad w (v ∷ vs) p k e =
+    let same : 1 ≡ k = cc in
+    subst (IsFirstBad (w ∷ v ∷ vs)) same (record {
+      within = omega arith;
+      before = record { rest = []; meaning = Version; line = ap (λ x. x ∷ []) p };
+      bad = λ q. let b = line_key w v q.rest q.meaning q.line in no_key-version b.0 (sym p ∙ b.1);
+    })
+
+pub first_bad : (words : List (List ℕ)) (k : ℕ) → reading_of words ≡ Bad k → IsFirstBad words k
+first_bad [] k e = absurd (cc)
+first_bad (w ∷ ws) k e = first_word w ws (λ r. (n : ℕ) → r ≡ Bad n → IsFirstBad (w ∷ ws) n) (help_bad w ws) (version_bad w ws) (plain_bad w ws) k e
+
+-- Words that are missing.
+
+abbrev Misses : Given → ℕ → List (List ℕ) → Reading → Type 0
+Misses g k words r = r ≡ Early → Continues g words
+
+plain_missing : (w : List ℕ) (ws : List (List ℕ)) → reading given_none 0 (w ∷ ws) ≡ Early → GoesOn (w ∷ ws)
+plain_missing w ws e = goes_on (w ∷ ws) (
+    read_cases Misses (λ g k p. continues-nil g) (λ g k v vs q p. absurd (cc))
+    (λ g k v key t p. subst (λ x. Continues g (x ∷ [])) (sym t.0) (continues-key g key t.1))
+    (λ g k v u vs key t f p. absurd (cc))
+    (λ g m k v u vs key r t f h p. subst (λ x. Continues g (x ∷ u ∷ vs)) (sym t.0) (continues-pair g m key u vs t.1 f (h p)))
+    (w ∷ ws) given_none 0 e)
+
+alone_whole : (m : Reading) (ws : List (List ℕ)) → (m ≡ Early → ⊥) → alone m ws ≡ Early → ⊥
+alone_whole m [] n e = n e
+alone_whole m (v ∷ vs) n e = cc
+
+pub missing : (words : List (List ℕ)) → reading_of words ≡ Early → GoesOn words
+missing [] e = record { rest = codes "--help" ∷ []; meaning = Help; line = refl }
+missing (w ∷ ws) e = first_word w ws (λ r. r ≡ Early → GoesOn (w ∷ ws)) (λ p q. absurd (alone_whole Help ws (λ h. cc) q)) (λ p q. absurd (alone_whole Version ws (λ h. cc) q))
+    (λ c d. plain_missing w ws) e

@@ -1,0 +1,5 @@
+pub mod NumberLemmas
+pub mod PartLemmas
+pub mod WordLemmas
+pub mod GrammarLemmas
+pub mod LawLemmas

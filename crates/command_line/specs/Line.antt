@@ -1,0 +1,51 @@
+-- What the code's values say of a line of words.
+use Rattle.std.specs.Prelude.{List, option_copied, option_map, map, String, string_bytes}
+use Rattle.command_line.specs.declared.line.Line.{Line}
+use Rattle.command_line.specs.declared.line.Line.TheVariants.{Record as RecordLine, Help as HelpLine, Version as VersionLine, BadWord, WordsMissing}
+use Rattle.command_line.specs.declared.icount.Icount.{Icount as IcountValue}
+use Rattle.command_line.specs.declared.icount.Settings.{Settings as SettingsValue}
+use Rattle.command_line.specs.declared.options.Options.{Options}
+use Rattle.command_line.specs.declared.options.OptionKey.{OptionKey}
+use Rattle.command_line.specs.declared.options.OptionKey.TheVariants.{Icount as IcountOption, Bios as BiosOption, Ram as RamOption, Budget as BudgetOption, Slice as SliceOption}
+use Rattle.command_line.specs.Icount.{Icount, Settings}
+use Rattle.command_line.specs.Words.{Given, Reading, Records, Help, Version, Bad, Early, Key, IcountKey, BiosKey, RamKey, BudgetKey, SliceKey, reading_of}
+
+abbrev pub seen_line : Line → Reading
+seen_line (RecordLine r) = Records (record {
+  shift = r.shift;
+  ram_mib = r.ram_mib;
+  slice = r.slice;
+  budget = r.budget;
+  log = r.log.now;
+  bios = r.bios.now;
+})
+seen_line HelpLine = Help
+seen_line VersionLine = Version
+seen_line (BadWord k) = Bad k
+seen_line WordsMissing = Early
+
+abbrev pub seen_icount : IcountValue → Icount
+seen_icount i = record { shift = i.shift; log = i.log.now }
+
+abbrev pub seen_settings : SettingsValue → Settings
+seen_settings s = record { shift = s.shift; records = s.records; log = option_copied s.log }
+
+abbrev pub seen_given : Options → Given
+seen_given o = record {
+  icount = option_map seen_icount o.icount;
+  bios = option_copied o.bios;
+  ram_mib = o.ram_mib;
+  budget = o.budget;
+  slice = o.slice;
+}
+
+abbrev pub seen_key : OptionKey → Key
+seen_key IcountOption = IcountKey
+seen_key BiosOption = BiosKey
+seen_key RamOption = RamKey
+seen_key BudgetOption = BudgetKey
+seen_key SliceOption = SliceKey
+
+-- what the words of a command line are
+abbrev pub line_in : {Z : Type 0} → List (String Z) → Reading
+line_in words = reading_of (map string_bytes words)

@@ -1,0 +1,101 @@
+//! The value of `-icount`: its settings, parted by commas.
+ghost use Rattle.std.specs.Prelude.{◌≡◌, length, option_map, option_copied, option_and_then};
+ghost use Rattle.std.specs.List.{slice_split};
+ghost use Rattle.command_line.specs.Icount.{name_of, with_setting, with_part, with_parts, is_comma, whole, icount_of};
+ghost use Rattle.command_line.specs.Number.{number_in};
+ghost use Rattle.command_line.specs.Line.{seen_icount, seen_settings};
+
+use crate::number::number;
+
+const SHIFT_MAX: u64 = 10;
+
+/// What a value of `-icount` asks for.
+#[derive(Clone, Copy, Debug)]
+pub(crate) struct Icount<'a> {
+    pub shift: u8,
+    pub log: &'a str,
+}
+
+/// What its keys so far gave.
+#[derive(Clone, Copy, Debug)]
+struct Settings<'a> {
+    shift: Option<u8>,
+    records: bool,
+    log: Option<&'a str>,
+}
+
+/// A name isn't empty.
+pub(crate) fn name(text: &str) -> Option<&str>
+    ensures { option_copied result ≡ name_of text.now }
+{
+    if text.is_empty() { None } else { Some(text) }
+}
+
+fn shift(text: &str) -> Option<u8>
+    ensures { result ≡ number_in 0 10 text.now }
+{
+    Some(number(text, 0, SHIFT_MAX)? as u8)
+}
+
+fn with_setting<'a>(settings: Settings<'a>, key: &str, value: &'a str) -> Option<Settings<'a>>
+    ensures { option_map seen_settings result
+        ≡ with_setting (seen_settings settings.entry) key.now value.now }
+{
+    match key {
+        "shift" if settings.shift.is_none() => Some(Settings {
+            shift: Some(shift(value)?),
+            ..settings
+        }),
+        "rr" if !settings.records && value == "record" => Some(Settings {
+            records: true,
+            ..settings
+        }),
+        "rrfile" if settings.log.is_none() => Some(Settings {
+            log: Some(name(value)?),
+            ..settings
+        }),
+        _ => None,
+    }
+}
+
+fn with_part<'a>(settings: Settings<'a>, part: &'a str) -> Option<Settings<'a>>
+    ensures { option_map seen_settings result ≡ with_part (seen_settings settings.entry) part.now }
+{
+    let (key, value) = part.split_once('=')?;
+    with_setting(settings, key, value)
+}
+
+fn with_parts<'a>(settings: Settings<'a>, parts: &'a str) -> Option<Settings<'a>>
+    ensures { option_map seen_settings result
+        ≡ with_parts (seen_settings settings.entry) (slice_split is_comma parts.now) }
+{
+    match parts.split_once(',') {
+        None => with_part(settings, parts),
+        Some((part, rest)) => with_parts(with_part(settings, part)?, rest),
+    }
+}
+
+fn whole<'a>(settings: Settings<'a>) -> Option<Icount<'a>>
+    ensures { option_map seen_icount result ≡ whole (seen_settings settings.entry) }
+{
+    match settings {
+        Settings {
+            shift: Some(shift),
+            records: true,
+            log: Some(log),
+        } => Some(Icount { shift, log }),
+        _ => None,
+    }
+}
+
+/// What the value asks for, where it is one.
+pub(crate) fn icount_value(value: &str) -> Option<Icount<'_>>
+    ensures { option_map seen_icount result ≡ icount_of value.now }
+{
+    let none = Settings {
+        shift: None,
+        records: false,
+        log: None,
+    };
+    whole(with_parts(none, value)?)
+}

@@ -1,0 +1,82 @@
+//! What the words of a command line are.
+ghost use Rattle.std.specs.Prelude.{◌≡◌, ◌+◌, ◌<◌, ◌^◌, length, map, string_bytes};
+ghost use Rattle.command_line.specs.Words.{reading, alone, NamesWord};
+ghost use Rattle.command_line.specs.Line.{seen_line, seen_given, line_in};
+
+use crate::options::Options;
+
+/// What words ask to record.
+#[derive(Clone, Copy, Debug, PartialEq, Eq)]
+pub struct RecordWords<'a> {
+    /// A turn takes 2^`shift` nanoseconds of the virtual clock. At most 10.
+    pub shift: u8,
+    /// RAM in MiB, from 1 to 64.
+    pub ram_mib: u8,
+    /// The turns from a checkpoint to the next, from 1 to 65536.
+    pub slice: u32,
+    /// The turns after which the run ends, from 1 to 2^40.
+    pub budget: u64,
+    /// The name of the log's file.
+    pub log: &'a str,
+    /// The name of the firmware's file.
+    pub bios: &'a str,
+}
+
+/// What words are.
+#[derive(Clone, Copy, Debug, PartialEq, Eq)]
+pub enum Line<'a> {
+    Record(RecordWords<'a>),
+    Help,
+    Version,
+    /// The number of the first word, from 0, that no allowed line goes on with.
+    BadWord(usize),
+    /// An allowed line goes on after the words, which end early.
+    WordsMissing,
+}
+
+fn alone<'a>(line: Line<'a>, rest: &[String]) -> Line<'a>
+    ensures { seen_line result ≡ alone (seen_line line.entry) (map string_bytes rest.now) }
+{
+    if rest.is_empty() {
+        line
+    } else {
+        Line::BadWord(1)
+    }
+}
+
+fn read_from<'a>(options: Options<'a>, number: usize, words: &'a [String]) -> Line<'a>
+    requires { number + length words.now < 2 ^ 63 }
+    ensures value { seen_line result
+        ≡ reading (seen_given options.entry) number (map string_bytes words.now) }
+    ensures named { NamesWord (seen_line result) (number + length words.now) }
+{
+    match words {
+        [] => options.at_end(),
+        [word] => match options.key(word.as_str()) {
+            None => Line::BadWord(number),
+            Some(_) => Line::WordsMissing,
+        },
+        [word, value, rest @ ..] => match options.key(word.as_str()) {
+            None => Line::BadWord(number),
+            Some(key) => match options.with(key, value.as_str()) {
+                None => Line::BadWord(number + 1),
+                Some(more) => read_from(more, number + 2, rest),
+            },
+        },
+    }
+}
+
+/// What the words of a command line are, the program's own name left out.
+pub fn read_line<'a>(words: &'a [String]) -> Line<'a>
+    ensures value { seen_line result ≡ line_in words.now }
+    ensures named { NamesWord (seen_line result) (length words.now) }
+{
+    let [first, rest @ ..] = words else {
+        return Line::WordsMissing;
+    };
+    match first.as_str() {
+        "--help" => alone(Line::Help, rest),
+        "--version" => alone(Line::Version, rest),
+        _ => read_from(Options::none(), 0, words),
+    }
+}

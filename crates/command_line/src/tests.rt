@@ -1,0 +1,92 @@
+//! Lines of words, and what they are.
+
+use super::*;
+use std::alloc::Global;
+use std::test::Fail;
+
+fn words(alloc: Global, line: &str) -> Result<Vec<String>, Fail> {
+    let mut words = Vec::new(alloc);
+    for word in line.split(' ') {
+        words.push(String::from_str(alloc, word)?)?;
+    }
+    Ok(words)
+}
+
+#[test]
+fn a_line_gives_each_option_or_its_default(rt: HostRuntime) -> Result<(), Fail> {
+    let defaults = RecordWords {
+        shift: 0,
+        ram_mib: 16,
+        slice: 10_000,
+        budget: 1_000_000_000,
+        log: "a=b",
+        bios: "-m",
+    };
+    let short = words(rt.alloc(), "-icount shift=0,rr=record,rrfile=a=b -bios -m")?;
+    assert_eq!(rt; read_line(&short), Line::Record(defaults));
+
+    let line =
+        "-slice 65536 -m 64 -bios fw -budget 1099511627776 -icount rrfile=x,shift=10,rr=record";
+    let full = words(rt.alloc(), line)?;
+    let asked = RecordWords {
+        shift: 10,
+        ram_mib: 64,
+        slice: 65_536,
+        budget: 1 << 40,
+        log: "x",
+        bios: "fw",
+    };
+    assert_eq!(rt; read_line(&full), Line::Record(asked));
+    Ok(())
+}
+
+#[test]
+fn a_line_that_leaves_the_grammar_is_refused_at_its_first_bad_word(
+    rt: HostRuntime,
+) -> Result<(), Fail> {
+    for (line, bad) in [
+        ("-icount shift=11,rr=record,rrfile=a -bios b", 1),
+        ("-icount shift=01,rr=record,rrfile=a -bios b", 1),
+        ("-icount shift=1,rr=record,rrfile=a, -bios b", 1),
+        ("-icount shift=1,rr=replay,rrfile=a -bios b", 1),
+        ("-icount shift=1,rr=record,rrfile= -bios b", 1),
+        ("-bios b -bios c", 2),
+        ("-bios b -m 0 -x", 3),
+        ("-m +1", 1),
+        ("b", 0),
+        ("--help -bios", 1),
+        ("-bios b --help", 2),
+    ] {
+        let given = words(rt.alloc(), line)?;
+        assert_eq!(rt; read_line(&given), Line::BadWord(bad), "at {line}");
+    }
+    Ok(())
+}
+
+#[test]
+fn a_line_that_ends_early_misses_words(rt: HostRuntime) -> Result<(), Fail> {
+    for line in [
+        "-icount shift=1,rr=record,rrfile=a",
+        "-bios b",
+        "-bios b -icount",
+    ] {
+        let given = words(rt.alloc(), line)?;
+        assert_eq!(rt; read_line(&given), Line::WordsMissing, "at {line}");
+    }
+    assert_eq!(rt; read_line(&[]), Line::WordsMissing);
+    Ok(())
+}
+
+#[test]
+fn help_is_read_alone(rt: HostRuntime) -> Result<(), Fail> {
+    let help = words(rt.alloc(), "--help")?;
+    assert_eq!(rt; read_line(&help), Line::Help);
+    Ok(())
+}
+
+#[test]
+fn version_is_read_alone(rt: HostRuntime) -> Result<(), Fail> {
+    let version = words(rt.alloc(), "--version")?;
+    assert_eq!(rt; read_line(&version), Line::Version);
+    Ok(())
+}
