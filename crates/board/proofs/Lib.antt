@@ -1,0 +1,14 @@
+pub mod Lying
+pub mod Filling
+pub mod Levels
+pub mod DueFacts
+pub mod Clocking
+pub mod TimeHeld
+pub mod StepFacts
+pub mod RunFacts
+pub mod Hearing
+pub mod TakenLaws
+pub mod Unrefused
+pub mod Counting
+pub mod ClockLaws
+pub mod InHand

@@ -1,0 +1,15 @@
+pub mod Time
+pub mod MemoryMap
+pub mod Memory
+pub mod Access
+pub mod Lines
+pub mod State
+pub mod Close
+pub mod Turn
+pub mod Due
+pub mod Accept
+pub mod Runs
+pub mod Reset
+pub mod Taken
+pub mod Answers
+pub mod Laws

@@ -1,0 +1,167 @@
+//! Events other than INSTRUCTION.
+
+ghost use Rattle.std.specs.Prelude.{◌≡◌, ◌⊎◌, []};
+ghost use Rattle.event_log.specs.Spelling.{IsEvent};
+ghost use Rattle.board.specs.Accept.{Accepts, Takes, TakesDue, takes_input as takes_input_of, used, interrupted, ended as ended_of};
+
+use crate::closing::closed;
+use crate::control::{Control, Ending, Window};
+use crate::deciding::interrupt_at;
+use crate::due::Due;
+use crate::machine::Machine;
+use event_log::Event;
+use rv_csr::Mode;
+use rv_exec::Hart;
+
+/// Why an event wasn't accepted.
+#[derive(Clone, Copy, Debug, PartialEq, Eq)]
+pub enum AcceptError {
+    /// The event is refused, and this is due.
+    Wrong(Due),
+    NoMemory,
+}
+
+/// Whether a window is open in a run that hasn't ended.
+fn takes_input(control: &Control) -> bool
+    ensures { result ≡ takes_input_of control.now }
+{
+    if control.ended.is_some() {
+        return false;
+    }
+    match control.window {
+        Window::Shut => false,
+        _ => true,
+    }
+}
+
+/// The window had an event.
+fn used_window(window: Window) -> Window
+    ensures { result ≡ used window }
+{
+    match window {
+        Window::Shut => Window::Shut,
+        Window::Slice { .. } => Window::Slice { used: true },
+        Window::Idle { .. } => Window::Idle { used: true },
+    }
+}
+
+/// Enters an interrupt before the instruction at pc.
+fn interrupt(hart: &mut Hart, which: u32)
+    requires { (which ≡ 3) ⊎ (which ≡ 7) ⊎ (which ≡ 11) }
+    ensures { hart.new ≡ interrupted hart.old which }
+{
+    hart.pc = hart.csrs.enter_interrupt(hart.mode, hart.pc, which);
+    hart.mode = Mode::M;
+}
+
+impl Machine {
+    /// Takes an event other than INSTRUCTION, or answers what is due instead. `base` is the base
+    /// image's bytes for a BLOCK whose request is in flight, and empty for every other event.
+    #[tactic(auto, unfolding(crate::specs::Accept::accept))]
+    pub fn accept(&mut self, e: &Event, base: &[u8]) -> Result<(), AcceptError>
+        requires event { IsEvent e.now }
+        requires base { base.now ≡ [] }
+        ensures { Accepts self.old e.now result self.new }
+    {
+        let taken = self.take(e);
+        if taken.is_ok() {
+            self.devices.set_levels();
+        }
+        taken
+    }
+
+    /// The same before the levels are set.
+    #[tactic(auto, unfolding(crate::specs::Accept::taken))]
+    fn take(&mut self, e: &Event) -> Result<(), AcceptError>
+        ensures { Takes self.old e.now result self.new }
+    {
+        match e {
+            Event::CharRead(bytes) => {
+                if !takes_input(&self.control) {
+                    return Err(AcceptError::Wrong(self.due()));
+                }
+                if self.devices.uart.receive(bytes.as_slice()).is_err() {
+                    return Err(AcceptError::NoMemory);
+                }
+                self.control.window = used_window(self.control.window);
+                Ok(())
+            }
+            Event::Net(_) => {
+                if !takes_input(&self.control) {
+                    return Err(AcceptError::Wrong(self.due()));
+                }
+                self.hart.reservation = None;
+                self.control.window = used_window(self.control.window);
+                Ok(())
+            }
+            Event::Block { .. } => Err(AcceptError::Wrong(self.due())),
+            Event::End { reason: 3, code } => {
+                if !takes_input(&self.control) {
+                    return Err(AcceptError::Wrong(self.due()));
+                }
+                self.end(3, *code);
+                Ok(())
+            }
+            _ => self.take_due(e),
+        }
+    }
+
+    fn end(&mut self, reason: u8, code: u32)
+        ensures { self.new ≡ ended_of self.old reason code }
+    {
+        self.control.ended = Some(Ending { reason, code });
+    }
+
+    /// The event that is due, of the state whose window is closed.
+    fn take_due(&mut self, e: &Event) -> Result<(), AcceptError>
+        ensures { TakesDue self.old e.now result self.new }
+    {
+        let due = self.due();
+        let (control, time) = closed(&self.hart, &self.devices, &self.control);
+        match (due, e) {
+            (Due::Exception, Event::Exception) => {
+                self.control = Control {
+                    trapped: false,
+                    ..control
+                };
+            }
+            (Due::Interrupt, Event::Interrupt) => {
+                let Some(which) = interrupt_at(&self.hart, &self.devices, &time) else {
+                    return Err(AcceptError::Wrong(due));
+                };
+                interrupt(&mut self.hart, which);
+                self.control = control;
+            }
+            (Due::Idle, Event::Checkpoint { idle: true }) => {
+                self.control = Control {
+                    since: 0,
+                    window: Window::Idle { used: false },
+                    ..control
+                };
+            }
+            (Due::Slice, Event::Checkpoint { idle: false }) => {
+                self.control = Control {
+                    since: 0,
+                    window: Window::Slice { used: false },
+                    ..control
+                };
+            }
+            (Due::Clock, Event::Clock(value)) => {
+                self.control = control;
+                self.devices.rtc.give(*value);
+            }
+            (Due::End { reason: r, code: c }, Event::End { reason, code }) => {
+                if r != *reason || c != *code {
+                    return Err(AcceptError::Wrong(due));
+                }
+                self.control = Control {
+                    ended: Some(Ending { reason: r, code: c }),
+                    ..control
+                };
+            }
+            _ => return Err(AcceptError::Wrong(due)),
+        }
+        self.devices.time = time;
+        Ok(())
+    }
+}

@@ -1,0 +1,38 @@
+//! Laws of whole runs.
+
+ghost use Rattle.std.specs.Prelude.{◌≡◌, ◌≤◌, ℕ, List, IfSome, IsSome};
+ghost use Rattle.event_log.specs.declared.event.Event.{Event as AnEvent};
+ghost use Rattle.board.specs.State.{State};
+ghost use Rattle.board.specs.Due.{due};
+ghost use Rattle.board.specs.Close.{close};
+ghost use Rattle.board.specs.Turn.{turn};
+ghost use Rattle.board.specs.Runs.{run, turns, state_at};
+ghost use Rattle.board.specs.Taken.{with_out, map_out};
+ghost use Rattle.board.specs.Laws.{NoLater, IsLaterBy, IdlesUntil, ResumesAt};
+
+/// Console bytes that were taken before play no part in a run.
+pub fn taken()
+    ensures due { (front : List ℕ) (g : State) → due (with_out front g) ≡ due g }
+    ensures run { (front : List ℕ) (es : List AnEvent) (g : State)
+        → run (with_out front g) es ≡ map_out front (run g es) }
+    ensures state { (front : List ℕ) (es : List AnEvent) (g : State) (n : ℕ)
+        → state_at (with_out front g) es n ≡ with_out front (state_at g es n) }
+{}
+
+/// The virtual clock never falls, in a run and from one of its states to a later one.
+pub fn clock_never_falls()
+    ensures turn { (g : State) → NoLater g (turn g) }
+    ensures run { (es : List AnEvent) (g : State) → IfSome (run g es) (NoLater g) }
+    ensures states { (es : List AnEvent) (g : State) (n m : ℕ)
+        → n ≤ m → IsSome (run g es) → NoLater (state_at g es n) (state_at g es m) }
+{}
+
+/// The count of turns rises by exactly the turns of the events.
+pub fn count_is_turns()
+    ensures { (es : List AnEvent) (g : State) → IfSome (run g es) (IsLaterBy (turns es) g) }
+{}
+
+/// A hart that is idle until a deadline goes on exactly at it.
+pub fn resumes_at_deadline()
+    ensures { (g : State) (at : ℕ) → IdlesUntil g at → ResumesAt (close g) at }
+{}

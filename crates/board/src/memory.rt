@@ -1,0 +1,61 @@
+//! RAM, as the hart reads it and as the firmware fills it.
+
+ghost use Rattle.std.specs.Prelude.{◌≡◌, ◌<◌, ◌≤◌, ◌*◌, ◌^◌, IfSome, IfOk, OnOk, is_some, length};
+ghost use Rattle.std.specs.List.{AllByRecursion};
+ghost use Rattle.ram_pages.specs.Memory.{IsSize, written, zeros};
+ghost use Rattle.elf_load.specs.Load.{IsInside};
+ghost use Rattle.board.specs.Memory.{ram_load, lies_in, filled};
+
+use elf_load::Piece;
+use outside::NoMemory;
+use ram_pages::{Ram, RamError};
+use std::alloc::{AllocError, Global};
+
+/// The number in a range of RAM.
+#[tactic(auto, unfolding(crate::specs::Memory::ram_load), using(crate::proofs::Lying::lying))]
+pub(crate) fn ram_load(ram: &Ram, at: u32, size: u32) -> Option<u32>
+    requires { IsSize size }
+    ensures value { result ≡ ram_load ram.now at size }
+    ensures lies { is_some result ≡ lies_in ram.now at size }
+    ensures fits { IfSome result (λ value. value < 2 ^ (8 * size)) }
+{
+    match ram.load(at, size) {
+        Ok(value) => Some(value),
+        Err(_) => None,
+    }
+}
+
+/// Whether a range lies in RAM.
+pub(crate) fn lies_in(ram: &Ram, at: u32, size: u32) -> bool
+    ensures { result ≡ lies_in ram.now at size }
+{
+    ram.holds(u64::from(at), u64::from(size))
+}
+
+/// Copies a piece into RAM.
+#[tactic(auto, using(crate::proofs::Filling::written_length))]
+fn fill(ram: &mut Ram, piece: &Piece) -> Result<(), NoMemory>
+    requires { IsInside (length ram.old) piece.now }
+    ensures ok { OnOk result (ram.new ≡ written ram.old piece.now.at piece.now.bytes) }
+    ensures size { OnOk result (length ram.new ≡ length ram.old) }
+{
+    match ram.copy_in(u64::from(piece.at), piece.bytes.as_slice()) {
+        Ok(()) => Ok(()),
+        Err(RamError::NoMemory) => Err(AllocError),
+        Err(RamError::Outside) => unreachable!(),
+    }
+}
+
+/// A RAM of so many MiB, with the pieces copied in.
+pub(crate) fn ram_with(alloc: Global, mib: u8, pieces: &[Piece]) -> Result<Ram, NoMemory>
+    requires some { 1 ≤ mib }
+    requires few { mib ≤ 64 }
+    requires inside { AllByRecursion (IsInside (mib * 2 ^ 20)) pieces.now }
+    ensures { IfOk result (λ ram. ram ≡ filled (zeros mib) pieces.now) }
+{
+    let mut ram = Ram::new(alloc, u32::from(mib))?;
+    for piece in pieces {
+        fill(&mut ram, piece)?;
+    }
+    Ok(ram)
+}

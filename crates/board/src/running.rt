@@ -1,0 +1,90 @@
+//! Turns, as long as one is due.
+
+ghost use Rattle.std.specs.Prelude.{◌≡◌};
+ghost use Rattle.board.specs.Answers.{Advances, RunsTo, Turns};
+ghost use Rattle.board.specs.Due.{due as due_of};
+
+use crate::closing::closed;
+use crate::control::Window;
+use crate::due::Due;
+use crate::machine::Machine;
+use crate::steps::Steps;
+use crate::turning::{Stepped, step};
+use outside::NoMemory;
+use std::alloc::AllocError;
+use std::sync::ledger::Ledger;
+
+/// What a turn came to.
+#[derive(Clone, Copy, Debug, PartialEq, Eq)]
+pub enum Turned {
+    Done,
+    NoMemory,
+}
+
+impl Machine {
+    /// A turn where one is due. It closes an open window first.
+    #[tactic(auto, unfolding(crate::specs::Due::due, crate::specs::Turn::turn, crate::specs::Close::close))]
+    pub(crate) fn advance(&mut self) -> Stepped
+        ensures { Advances self.old result self.new }
+    {
+        if let Window::Shut = self.control.window {
+            return step(&mut self.hart, &mut self.devices, &mut self.control);
+        }
+        self.advance_closing()
+    }
+
+    /// The same, where a window may be open.
+    #[tactic(auto, unfolding(crate::specs::Due::due, crate::specs::Turn::turn))]
+    fn advance_closing(&mut self) -> Stepped
+        ensures { Advances self.old result self.new }
+    {
+        let before = (self.control, self.devices.time);
+        let (control, time) = closed(&self.hart, &self.devices, &self.control);
+        self.control = control;
+        self.devices.time = time;
+        match step(&mut self.hart, &mut self.devices, &mut self.control) {
+            Stepped::Turned => Stepped::Turned,
+            other => {
+                self.control = before.0;
+                self.devices.time = before.1;
+                other
+            }
+        }
+    }
+
+    /// One turn, which closes an open window first. After `NoMemory` all is as before.
+    #[tactic(auto, using(crate::proofs::DueFacts::run_is_run))]
+    pub fn turn<L: Ledger>(&mut self, steps: &mut Steps<L>) -> Turned
+        requires { due_of self.old ≡ Due.Run }
+        ensures { Turns self.old result self.new steps.old steps.new }
+    {
+        match self.advance() {
+            Stepped::Turned => {
+                steps.tick();
+                Turned::Done
+            }
+            Stepped::Stopped => unreachable!(),
+            Stepped::NoMemory => Turned::NoMemory,
+        }
+    }
+
+    /// Makes turns as long as one is due, at most `limit`, and answers how many. Where memory is
+    /// refused, the turns before stay made.
+    #[tactic(auto, using(crate::proofs::RunFacts::run_facts))]
+    pub fn run<L: Ledger>(&mut self, limit: u32, steps: &mut Steps<L>) -> Result<u32, NoMemory>
+        ensures { RunsTo self.old limit result self.new steps.old steps.new }
+    {
+        let mut made = 0;
+        while made < limit {
+            match self.advance() {
+                Stepped::Turned => {
+                    steps.tick();
+                    made += 1;
+                }
+                Stepped::Stopped => return Ok(made),
+                Stepped::NoMemory => return Err(AllocError),
+            }
+        }
+        Ok(limit)
+    }
+}

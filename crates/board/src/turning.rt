@@ -1,0 +1,136 @@
+//! One turn.
+
+ghost use Rattle.std.specs.Prelude.{◌≡◌, ◌≢◌, ◌<◌, ◌^◌};
+ghost use Rattle.rv_exec.specs.Rows.{Reaches, is_need_clock};
+ghost use Rattle.board.specs.Turn.{attempt as attempt_of, entered, settle as settle_of};
+ghost use Rattle.board.specs.Answers.{Counts, Refused, StepsTo};
+
+use crate::control::Control;
+use crate::deciding::{interrupt_at, is_clear};
+use crate::devices::Devices;
+use crate::memory::ram_load;
+use rv_csr::Mode;
+use rv_decode::decode;
+use rv_exec::{Done, Hart, execute};
+
+/// The cause of a fetch outside RAM.
+const INSTRUCTION_ACCESS_FAULT: u32 = 1;
+
+/// The cause of a word that means no instruction.
+const ILLEGAL_INSTRUCTION: u32 = 2;
+
+/// The attempt at the instruction at pc. It leaves the clock as it is.
+#[tactic(auto, using(crate::proofs::TimeHeld::attempt_time))]
+pub(crate) fn attempt(hart: &mut Hart, devices: &mut Devices) -> Done
+    ensures reached { result ≢ Done.NoMemory →
+        Reaches (attempt_of hart.old devices.old) result hart.new devices.new }
+    ensures refused { result ≡ Done.NoMemory →
+        Refused (attempt_of hart.old devices.old) hart.old devices.old hart.new devices.new }
+    ensures clock { result ≡ Done.NeedClock →
+        (hart.new ≡ hart.old) × (devices.new ≡ devices.old) }
+    ensures time { devices.new.time ≡ devices.old.time }
+{
+    fetch(hart, devices)
+}
+
+/// The fetch, the decoding and the execution of the word at pc.
+#[tactic(auto, unfolding(crate::specs::Turn::attempt))]
+fn fetch(hart: &mut Hart, devices: &mut Devices) -> Done
+    ensures reached { result ≢ Done.NoMemory →
+        Reaches (attempt_of hart.old devices.old) result hart.new devices.new }
+    ensures refused { result ≡ Done.NoMemory →
+        Refused (attempt_of hart.old devices.old) hart.old devices.old hart.new devices.new }
+    ensures clock { result ≡ Done.NeedClock →
+        (hart.new ≡ hart.old) × (devices.new ≡ devices.old) }
+{
+    let Some(word) = ram_load(&devices.ram, hart.pc, 4) else {
+        return Done::Trap {
+            cause: INSTRUCTION_ACCESS_FAULT,
+            value: hart.pc,
+        };
+    };
+    let Some(ins) = decode(word) else {
+        return Done::Trap {
+            cause: ILLEGAL_INSTRUCTION,
+            value: word,
+        };
+    };
+    execute(hart, devices, ins, word)
+}
+
+/// What a step came to.
+#[derive(Clone, Copy, Debug)]
+pub(crate) enum Stepped {
+    /// One turn was made.
+    Turned,
+    /// Another thing than a turn is due.
+    Stopped,
+    /// Memory was refused, and nothing changed.
+    NoMemory,
+}
+
+/// A turn where one is due, of a state whose window is closed. The word is decoded once: whether
+/// the turn needs the clock shows in the attempt.
+#[tactic(auto, unfolding(crate::specs::Due::due_closed, crate::specs::Due::needs_clock, crate::specs::Turn::turn_closed), using(crate::proofs::DueFacts::deciding, crate::proofs::Levels::levels_time))]
+pub(crate) fn step(hart: &mut Hart, devices: &mut Devices, control: &mut Control) -> Stepped
+    requires { Counts control.old devices.old.time }
+    ensures step { StepsTo
+        (record { hart = hart.old; devices = devices.old; control = control.old }) result
+        (record { hart = hart.new; devices = devices.new; control = control.new }) }
+    ensures counts { Counts control.new devices.new.time }
+{
+    let interrupt = interrupt_at(hart, devices, &devices.time).is_some();
+    if !is_clear(
+        control,
+        devices.time.count(),
+        devices.finisher.ended(),
+        interrupt,
+    ) {
+        return Stepped::Stopped;
+    }
+    let done = attempt(hart, devices);
+    match done {
+        Done::NeedClock => Stepped::Stopped,
+        Done::NoMemory => Stepped::NoMemory,
+        _ => {
+            settle(hart, devices, control, done);
+            Stepped::Turned
+        }
+    }
+}
+
+/// Enters a trap.
+fn enter(hart: &mut Hart, cause: u32, value: u32)
+    ensures { hart.new ≡ entered hart.old cause value }
+{
+    hart.pc = hart.csrs.enter_trap(hart.mode, hart.pc, cause, value);
+    hart.mode = Mode::M;
+}
+
+/// What is left of a turn that was made: the trap's entry, the counts, and the levels.
+pub(crate) fn settle(hart: &mut Hart, devices: &mut Devices, control: &mut Control, done: Done)
+    requires count { devices.old.time.count < 2 ^ 40 }
+    requires since { control.old.since < 65536 }
+    ensures { record { hart = hart.new; devices = devices.new; control = control.new }
+        ≡ settle_of
+        (record { hart = hart.old; devices = devices.old; control = control.old })
+        done hart.old devices.old }
+{
+    match done {
+        Done::Retired { idle } => {
+            hart.csrs.tick(true);
+            if idle {
+                control.idle = true;
+            }
+        }
+        Done::Trap { cause, value } => {
+            enter(hart, cause, value);
+            hart.csrs.tick(false);
+            control.trapped = true;
+        }
+        Done::NeedClock | Done::NoMemory => return,
+    }
+    devices.time.tick();
+    devices.set_levels();
+    control.since += 1;
+}
