@@ -1,0 +1,164 @@
+-- Parts of a recording, one after another.
+use Rattle.std.proofs.Common.{◌≡◌, ℕ, Bool, true, false, List, [], ◌∷◌, ◌++◌, refl, sym, ap, ◌∙◌, subst, append_assoc, append-nil}
+use Rattle.std.specs.Prelude.{Some, None, Result, Ok, Err}
+use Rattle.std.specs.declared.option.Option.{Option}
+use Rattle.std.specs.List.{AllByRecursion}
+use Rattle.outside.specs.Causes.{Rose}
+use Rattle.outside.specs.Told.{Takes, TakesFront}
+use Rattle.outside.proofs.ToldLemmas.{Takes-refl, Takes-trans, TakesFront-after}
+use Rattle.event_log.specs.declared.event.Event.{Event}
+use Rattle.event_log.specs.Spelling.{text, texts, IsEvent}
+use Rattle.event_log.specs.Writing.{Writer}
+use Rattle.board.specs.State.{State}
+use Rattle.board.specs.Runs.{step, then_run, run}
+use Rattle.board.specs.Taken.{with_out, map_out}
+use Rattle.board.proofs.TakenLaws.{run-with}
+use Rattle.rr_engine.specs.declared.parts.Break.{Break}
+use Rattle.rr_engine.specs.declared.parts.Break.TheVariants.{ConsoleWrite, LogWrite, NoMemory}
+use Rattle.rr_engine.specs.Stand.{Stand}
+use Rattle.rr_engine.specs.Recording.{clock_value, clock_values, Took, Appended, Logged, Gave, Counted, Recorded, Broke, Goes}
+
+-- ---- runs
+
+abbrev pub some_state : State → Option State
+some_state g = Some g
+
+pub some_is : (g h : State) → some_state g ≡ some_state h → g ≡ h
+some_is g h e = cc
+
+pub then-more : (o : Option State) (f : State → Option State) (g' : State) → then_run o f ≡ Some g'
+    → (h : State) × (o ≡ Some h) × (f h ≡ Some g')
+then-more None f g' e = absurd cc
+then-more (Some h) f g' e = (h, refl, e)
+
+pub run-none : (g : State) → run g [] ≡ Some g
+unfolding run
+run-none g = refl
+
+pub run-one : (g h : State) (e : Event) → step g e ≡ Some h → run g (e ∷ []) ≡ Some h
+unfolding run
+run-one g h e s = rw s refl
+
+pub run-append : (es fs : List Event) (g m : State) (r : Option State)
+    → run g es ≡ Some m → run m fs ≡ r → run g (es ++ fs) ≡ r
+unfolding run
+run-append [] fs g m r p q = ap (λ z. run z fs) (some_is g m p) ∙ q
+run-append (e ∷ es) fs g m r p q =
+    let more = then-more (step g e) (λ h. run h es) m p in
+    rw more.1 (run-append es fs more.0 m r more.2 q)
+
+pub with-with : (xs ys : List ℕ) (g : State) → with_out xs (with_out ys g) ≡ with_out (xs ++ ys) g
+with-with xs ys g =
+    ap (λ z. record g { devices = record g.devices { uart = record g.devices.uart { out = z } } })
+    (sym (append_assoc xs ys g.devices.uart.out))
+
+-- events that ran where console bytes stand before those that weren't taken yet
+pub run-behind : (xs ys : List ℕ) (es : List Event) (g last : State) → run g es ≡ Some (with_out ys last)
+    → run (with_out xs g) es ≡ Some (with_out (xs ++ ys) last)
+run-behind xs ys es g last r =
+    run-with xs es g ∙ ap (map_out xs) r ∙ ap (λ z. some_state z) (with-with xs ys last)
+
+-- ---- lists of events
+
+pub all-append : (es fs : List Event) → AllByRecursion IsEvent es → AllByRecursion IsEvent fs → AllByRecursion IsEvent (es ++ fs)
+all-append [] fs p q = q
+all-append (e ∷ es) fs p q = (p.0, all-append es fs p.1 q)
+
+pub texts-append : (es fs : List Event) → texts (es ++ fs) ≡ texts es ++ texts fs
+texts-append [] fs = refl
+texts-append (e ∷ es) fs = ap (λ z. text e ++ z) (texts-append es fs) ∙ sym (append_assoc (text e) (texts es) (texts fs))
+
+pub values-append : (es fs : List Event) → clock_values (es ++ fs) ≡ clock_values es ++ clock_values fs
+values-append [] fs = refl
+values-append (e ∷ es) fs =
+    ap (λ z. clock_value e ++ z) (values-append es fs) ∙ sym (append_assoc (clock_value e) (clock_values es) (clock_values fs))
+
+-- ---- what devices took and gave
+
+took-then : (w : Bool) (a b c : Option (List ℕ)) (xs ys : List ℕ) → Takes a b xs → Took w b c ys → Took w a c (xs ++ ys)
+took-then true a b c xs ys p q = Takes-trans a b c xs ys p q
+took-then false a b c xs ys p q = TakesFront-after a b c xs ys p q
+
+-- what is written and held, and more that joins
+regroup : (w m o xs ys : List ℕ) → w ++ m ≡ o ++ xs → w ++ (m ++ ys) ≡ o ++ (xs ++ ys)
+regroup w m o xs ys e = sym (append_assoc w m ys) ∙ ap (λ z. z ++ ys) e ∙ append_assoc o xs ys
+
+logged-then : (w : Bool) (o m n : Writer) (xs ys : List ℕ) → Appended o m xs → Logged w m n ys → Logged w o n (xs ++ ys)
+logged-then true o m n xs ys p q = record {
+  written = p.written ++ q.written;
+  taken = Takes-trans o.taken m.taken n.taken p.written q.written p.taken q.taken;
+  whole =
+      append_assoc p.written q.written n.unsent.held
+      ∙ ap (λ z. p.written ++ z) q.whole
+      ∙ regroup p.written m.unsent.held o.unsent.held xs ys p.whole;
+  works = q.works;
+}
+logged-then false o m n xs ys p q =
+    subst (TakesFront o.taken n.taken) (regroup p.written m.unsent.held o.unsent.held xs ys p.whole)
+    (TakesFront-after o.taken m.taken n.taken p.written (m.unsent.held ++ ys) p.taken q)
+
+gave-then : (w : Bool) (a b c : Option (List ℕ)) (xs ys : List ℕ) → Gave true a b xs → Gave w b c ys → Gave w a c (xs ++ ys)
+gave-then w a b c xs ys p q =
+    let first : Takes a b xs = subst (Takes a b) (ap (λ z. xs ++ z) (p.all refl) ∙ append-nil xs) p.gave in
+    record {
+      more = q.more;
+      gave = subst (Takes a c) (sym (append_assoc xs ys q.more)) (Takes-trans a b c xs (ys ++ q.more) first q.gave);
+      all = q.all;
+    }
+
+counted-then : (w : Bool) (a b c : ℕ) → Counted true a b → Counted w b c → Counted w a c
+counted-then true a b c p q = q ∙ p
+counted-then false a b c p q = tt
+
+-- ---- the recording
+
+pub appended-none : (w : Writer) → w.unsent.failed ≡ false → Appended w w []
+appended-none w works = record { written = []; taken = Takes-refl w.taken; whole = sym (append-nil w.unsent.held); works = works }
+
+pub gave-none : (w : Bool) (a : Option (List ℕ)) → Gave w a a []
+gave-none w a = record { more = []; gave = Takes-refl a; all = λ e. refl }
+
+pub recorded-none : (p : Stand) → p.log.unsent.failed ≡ false → Recorded true p p
+recorded-none p works = record {
+  events = [];
+  bytes = [];
+  last = p.machine;
+  are = tt;
+  runs = run-none p.machine;
+  stands = λ e. refl;
+  log = appended-none p.log works;
+  log_faults = refl;
+  console = Takes-refl p.console;
+  console_faults = refl;
+  clock = gave-none true p.gave;
+}
+
+pub recorded-then : (w : Bool) (p q r : Stand) → Recorded true p q → Recorded w q r → Recorded w p r
+recorded-then w p q r a b =
+    let first : run p.machine a.events ≡ Some (with_out a.bytes q.machine) =
+    a.runs ∙ ap (λ z. some_state (with_out a.bytes z)) (a.stands refl) in
+    record {
+      events = a.events ++ b.events;
+      bytes = a.bytes ++ b.bytes;
+      last = b.last;
+      are = all-append a.events b.events a.are b.are;
+      runs = run-append a.events b.events p.machine (with_out a.bytes q.machine) (Some (with_out (a.bytes ++ b.bytes) b.last)) first
+          (run-behind a.bytes b.bytes b.events q.machine b.last b.runs);
+      stands = b.stands;
+      log = subst (Logged w p.log r.log) (sym (texts-append a.events b.events))
+          (logged-then w p.log q.log r.log (texts a.events) (texts b.events) a.log b.log);
+      log_faults = counted-then w p.log.faults q.log.faults r.log.faults a.log_faults b.log_faults;
+      console = took-then w p.console q.console r.console a.bytes b.bytes a.console b.console;
+      console_faults = counted-then w p.console_faults q.console_faults r.console_faults a.console_faults b.console_faults;
+      clock = subst (Gave w p.gave r.gave) (sym (values-append a.events b.events))
+          (gave-then w p.gave q.gave r.gave (clock_values a.events) (clock_values b.events) a.clock b.clock);
+    }
+
+pub broke-then : (p q r : Stand) (b : Break) → Recorded true p q → Broke q r b → Broke p r b
+broke-then p q r ConsoleWrite a h = let P : ℕ → Type 0 = λ n. Rose n r.console_faults in subst P a.console_faults h
+broke-then p q r LogWrite a h = let P : ℕ → Type 0 = λ n. Rose n r.log.faults in subst P a.log_faults h
+broke-then p q r NoMemory a h = tt
+
+pub goes-then : (p q r : Stand) (x : Result (Unit {0}) Break) → Recorded true p q → Goes q r x → Goes p r x
+goes-then p q r (Ok done) a h = recorded-then true p q r a h
+goes-then p q r (Err b) a h = (recorded-then false p q r a h.0, broke-then p q r b a h.1)

@@ -1,0 +1,10 @@
+pub mod Noting
+pub mod Joining
+pub mod Entering
+pub mod Stopping
+pub mod Owing
+pub mod Falling
+pub mod Running
+pub mod Endings
+pub mod Rounding
+pub mod Wholes

@@ -1,0 +1,4 @@
+pub mod Stand
+pub mod Recording
+pub mod Work
+pub mod Runs

@@ -1,0 +1,191 @@
+-- What was recorded from one stand of a recording to another.
+use Rattle.std.specs.Prelude.{◌≡◌, ℕ, Bool, true, false, List, [], ◌∷◌, ◌++◌, ◌⊎◌, ◌≤◌, Some, None, Result, Ok, Err}
+use Rattle.std.specs.declared.option.Option.{Option}
+use Rattle.std.specs.List.{AllByRecursion}
+use Rattle.outside.specs.Causes.{Rose}
+use Rattle.outside.specs.Told.{Takes, TakesFront}
+use Rattle.event_log.specs.declared.event.Event.{Event}
+use Rattle.event_log.specs.declared.event.Event.TheVariants as event
+use Rattle.event_log.specs.Spelling.{text, texts, IsEvent}
+use Rattle.event_log.specs.Writing.{Writer}
+use Rattle.board.specs.State.{State}
+use Rattle.board.specs.Runs.{step, run}
+use Rattle.board.specs.Taken.{with_out, without_out}
+use Rattle.board.specs.declared.control.Ending.{Ending}
+use Rattle.event_log.specs.declared.stream_error.StreamError.{StreamError}
+use Rattle.event_log.specs.declared.stream_error.StreamError.TheVariants as stream
+use Rattle.rr_engine.specs.declared.parts.RunEnd.{RunEnd}
+use Rattle.rr_engine.specs.declared.parts.RunEnd.TheVariants as ends
+use Rattle.rr_engine.specs.declared.parts.Break.{Break}
+use Rattle.rr_engine.specs.declared.parts.Break.TheVariants.{ConsoleWrite, LogWrite, NoMemory}
+use Rattle.rr_engine.specs.Stand.{Stand}
+
+-- the value of a CLOCK event
+abbrev pub clock_value : Event → List ℕ
+clock_value (event.Clock value) = value ∷ []
+clock_value other = []
+
+-- the values of the CLOCK events, in order
+abbrev pub clock_values : List Event → List ℕ
+clock_values [] = []
+clock_values (e ∷ es) = clock_value e ++ clock_values es
+
+-- the bytes were taken, all of them or, where the recording broke off, a front
+abbrev pub Took : Bool → Option (List ℕ) → Option (List ℕ) → List ℕ → Type 0
+Took true old new bytes = Takes old new bytes
+Took false old new bytes = TakesFront old new bytes
+
+-- these bytes joined the log: what was written and what is held are what was held and these
+pub record Appended (old new : Writer) (bytes : List ℕ) : Type 0 where
+  pub written : List ℕ
+  pub taken : Takes old.taken new.taken written
+  pub whole : written ++ new.unsent.held ≡ old.unsent.held ++ bytes
+  pub works : new.unsent.failed ≡ false
+
+-- the same, or where the recording broke off, a front of what was held and these was written
+abbrev pub Logged : Bool → Writer → Writer → List ℕ → Type 0
+Logged true old new bytes = Appended old new bytes
+Logged false old new bytes = TakesFront old.taken new.taken (old.unsent.held ++ bytes)
+
+-- the clock gave these values, and where the recording broke off maybe one that no event has
+pub record Gave (whole : Bool) (old new : Option (List ℕ)) (values : List ℕ) : Type 0 where
+  pub more : List ℕ
+  pub gave : Takes old new (values ++ more)
+  pub all : whole ≡ true → more ≡ []
+
+-- a count of faults stayed, where the recording didn't break off
+abbrev pub Counted : Bool → ℕ → ℕ → Type 0
+Counted true old new = new ≡ old
+Counted false old new = Unit {0}
+
+-- The machine took these events, and gave these console bytes away; the log has the events, the
+-- console the bytes, and the clock gave the values. Where it broke off, the log has a front of
+-- that, and the console too.
+pub record Recorded (whole : Bool) (p q : Stand) : Type 0 where
+  pub events : List Event
+  pub bytes : List ℕ
+  pub last : State
+  pub are : AllByRecursion IsEvent events
+  pub runs : run p.machine events ≡ Some (with_out bytes last)
+  pub stands : whole ≡ true → last ≡ q.machine
+  pub log : Logged whole p.log q.log (texts events)
+  pub log_faults : Counted whole p.log.faults q.log.faults
+  pub console : Took whole p.console q.console bytes
+  pub console_faults : Counted whole p.console_faults q.console_faults
+  pub clock : Gave whole p.gave q.gave (clock_values events)
+
+-- why it broke off
+abbrev pub Broke : Stand → Stand → Break → Type 0
+Broke p q ConsoleWrite = Rose p.console_faults q.console_faults
+Broke p q LogWrite = Rose p.log.faults q.log.faults
+Broke p q NoMemory = Unit {0}
+
+-- the recording went on, or broke off
+abbrev pub Goes : Stand → Stand → Result (Unit {0}) Break → Type 0
+Goes p q (Ok done) = Recorded true p q
+Goes p q (Err broke) = Recorded false p q × Broke p q broke
+
+-- an event that the machine accepts now
+pub record IsOwed (g : State) (e : Event) : Type 0 where
+  pub spelled : IsEvent e
+  pub after : State
+  pub steps : step g e ≡ Some after
+
+-- the log got these bytes, or its sink failed, or memory was refused; nothing else changed
+abbrev pub Notes : Stand → Stand → List ℕ → Result (Unit {0}) Break → Type 0
+Notes p q bytes (Ok done) =
+    Appended p.log q.log bytes × (q ≡ record p { log = q.log })
+    × (q.log.faults ≡ p.log.faults)
+Notes p q bytes (Err LogWrite) =
+    TakesFront p.log.taken q.log.taken (p.log.unsent.held ++ bytes)
+    × (q ≡ record p { log = q.log }) × Rose p.log.faults q.log.faults
+Notes p q bytes (Err NoMemory) = q ≡ p
+Notes p q bytes (Err ConsoleWrite) = ⊥
+
+-- the console took the bytes that weren't taken yet, or its sink failed; nothing else changed
+abbrev pub Shows : Stand → Stand → Result (Unit {0}) Break → Type 0
+Shows p q (Ok done) =
+    Takes p.console q.console p.machine.devices.uart.out
+    × (q ≡ record p { machine = without_out p.machine; console = q.console })
+Shows p q (Err ConsoleWrite) =
+    TakesFront p.console q.console p.machine.devices.uart.out
+    × (q ≡ record p {
+      machine = without_out p.machine;
+      console = q.console;
+      console_faults = q.console_faults;
+    })
+    × Rose p.console_faults q.console_faults
+Shows p q (Err other) = ⊥
+
+-- what was held of the log was written, or a front of it; nothing else changed
+pub record Flushed (p q : Stand) : Type 0 where
+  pub front : TakesFront p.log.taken q.log.taken p.log.unsent.held
+  pub rest : q ≡ record p { log = q.log }
+
+-- the recording was stopped: no more console bytes came, and the log has a front of what was
+-- recorded
+pub record Stopped (p q : Stand) : Type 0 where
+  pub recorded : Recorded false p q
+  pub silent : recorded.bytes ≡ []
+  pub console : q.console ≡ p.console
+  pub console_faults : q.console_faults ≡ p.console_faults
+
+-- an event that is accepted without a turn
+abbrev pub IsNoTurn : Event → Type 0
+IsNoTurn (event.Instruction count) = ⊥
+IsNoTurn other = Unit {0}
+
+-- The machine took the event and the log got it, as far as its sink took it; or memory was refused
+-- before, and all is as it was.
+abbrev pub Enters : Stand → Stand → Event → Result (Unit {0}) Break → Type 0
+Enters p q e result =
+    ((result ≡ Err NoMemory) × (q ≡ p))
+    ⊎ ((step p.machine e ≡ Some q.machine)
+    × Notes (record p { machine = q.machine }) q (text e) result)
+
+-- the run goes on; or it ended by the guest, for want of a wake or at its budget, with all console
+-- bytes taken
+abbrev pub HasOwnEnding : Option Ending → List ℕ → Type 0
+HasOwnEnding None out = Unit {0}
+HasOwnEnding (Some ending) out =
+    (ending.reason ≤ 2) × (1 ≤ ending.reason → ending.code ≡ 0) × (out ≡ [])
+
+abbrev pub EndsByItself : State → Type 0
+EndsByItself g = HasOwnEnding g.control.ended g.devices.uart.out
+
+-- an event of the machine's own, without input and without a turn
+abbrev pub IsOwn : Event → Type 0
+IsOwn (event.Instruction count) = ⊥
+IsOwn (event.CharRead bytes) = ⊥
+IsOwn (event.Block id ok) = ⊥
+IsOwn (event.Net packet) = ⊥
+IsOwn other = Unit {0}
+
+-- an END that the machine may enter by itself
+abbrev pub IsOwnEnd : State → Event → Type 0
+IsOwnEnd g (event.End reason code) =
+    (reason ≤ 2) × (1 ≤ reason → code ≡ 0) × (g.devices.uart.out ≡ [])
+IsOwnEnd g other = Unit {0}
+
+-- these bytes were written to the log at once, or its sink failed, or memory was refused
+abbrev pub Sent : Stand → Stand → List ℕ → Result (Unit {0}) Break → Type 0
+Sent p q bytes (Ok done) =
+    Takes p.log.taken q.log.taken bytes × (q ≡ record p { log = q.log })
+    × (q.log.faults ≡ p.log.faults) × (q.log.unsent.failed ≡ false)
+Sent p q bytes (Err LogWrite) =
+    TakesFront p.log.taken q.log.taken bytes × (q ≡ record p { log = q.log })
+    × Rose p.log.faults q.log.faults
+Sent p q bytes (Err NoMemory) = q ≡ p
+Sent p q bytes (Err ConsoleWrite) = ⊥
+
+-- what a write to the log came to
+abbrev pub sent_of : Result (Unit {0}) StreamError → Result (Unit {0}) Break
+sent_of (Ok done) = Ok done
+sent_of (Err stream.NoMemory) = Err NoMemory
+sent_of (Err other) = Err LogWrite
+
+-- how a recording that broke off ended
+abbrev pub end_of : Break → RunEnd
+end_of ConsoleWrite = ends.ConsoleWrite
+end_of LogWrite = ends.LogWrite
+end_of NoMemory = ends.NoMemory

@@ -1,0 +1,113 @@
+-- What a whole recording gives.
+use Rattle.std.specs.Prelude.{◌≡◌, ◌≢◌, ℕ, ◌≤◌, ◌⊎◌, false, List, [], ◌++◌, Some, IfSome, Result, Ok, Err}
+use Rattle.std.specs.declared.option.Option.{Option}
+use Rattle.std.specs.List.{AllByRecursion}
+use Rattle.outside.specs.Causes.{Rose}
+use Rattle.outside.specs.Told.{Takes, TakesFront}
+use Rattle.elf_load.specs.declared.pieces.Loaded.{Loaded}
+use Rattle.event_log.specs.declared.header.Header.{Header}
+use Rattle.event_log.specs.declared.event.Event.{Event}
+use Rattle.event_log.specs.Spelling.{text, texts, IsEvent}
+use Rattle.board.specs.declared.config.Config.{Config}
+use Rattle.board.specs.State.{State}
+use Rattle.board.specs.Reset.{reset}
+use Rattle.board.specs.Runs.{run}
+use Rattle.board.specs.declared.control.Ending.{Ending}
+use Rattle.rr_engine.specs.declared.parts.Break.{Break}
+use Rattle.rr_engine.specs.declared.parts.RunEnd.{RunEnd}
+use Rattle.rr_engine.specs.declared.parts.RunEnd.TheVariants.{End, ConsoleWrite, LogWrite, NoMemory}
+use Rattle.rr_engine.specs.Stand.{Outputs}
+use Rattle.rr_engine.specs.Recording.{clock_values, Gave, end_of}
+
+-- what a header says of the machine
+abbrev pub config_of : Header → Config
+config_of h = record {
+  shift = h.shift;
+  ram_mib = h.ram_mib;
+  slice = h.slice;
+  budget = h.budget;
+  disk_len = h.disk_len;
+}
+
+-- the state from which the run of a header and a firmware starts
+abbrev pub start_of : Header → Loaded → State
+start_of h firmware = reset (config_of h) firmware
+
+-- The log is the head and the text of events that the machine accepts from its start on, the last
+-- of which is END with this reason and code; the console took the machine's bytes, and the clock
+-- gave the values.
+pub record RecordedWhole (start : State) (head : List ℕ)
+    (log log' console console' gave gave' : Option (List ℕ)) (reason code : ℕ) : Type 0 where
+  pub events : List Event
+  pub last : State
+  pub are : AllByRecursion IsEvent events
+  pub runs : run start events ≡ Some last
+  pub ended : last.control.ended ≡ Some (record { reason = reason; code = code })
+  pub log_taken : Takes log log' (head ++ texts events)
+  pub console_taken : Takes console console' last.devices.uart.out
+  pub clock_gave : Takes gave gave' (clock_values events)
+
+-- The same, broken off: a front of the log and of the console's bytes was taken.
+pub record RecordedFront (start : State) (head : List ℕ)
+    (log log' console console' gave gave' : Option (List ℕ)) : Type 0 where
+  pub events : List Event
+  pub last : State
+  pub are : AllByRecursion IsEvent events
+  pub runs : run start events ≡ Some last
+  pub log_taken : TakesFront log log' (head ++ texts events)
+  pub console_taken : TakesFront console console' last.devices.uart.out
+  pub clock_gave : Gave false gave gave' (clock_values events)
+
+abbrev pub Whole : State → List ℕ → Outputs → Outputs → ℕ → ℕ → Type 0
+Whole start head old new reason code =
+    RecordedWhole start head old.log new.log old.console new.console old.gave new.gave reason code
+
+abbrev pub Front : State → List ℕ → Outputs → Outputs → Type 0
+Front start head old new =
+    RecordedFront start head old.log new.log old.console new.console old.gave new.gave
+
+-- an end of the machine's own: by the guest, or with code 0 for want of a wake or at the budget
+abbrev pub IsOwnReason : ℕ → ℕ → Type 0
+IsOwnReason reason code = (reason ≤ 2) × (1 ≤ reason → code ≡ 0)
+
+-- what a recording answers, and what it leaves
+abbrev pub Records : State → List ℕ → Outputs → Outputs → RunEnd → Type 0
+Records start head old new (End reason code) =
+    Whole start head old new reason code × IsOwnReason reason code
+    × (new.log_faults ≡ old.log_faults) × (new.console_faults ≡ old.console_faults)
+Records start head old new ConsoleWrite =
+    Front start head old new × Rose old.console_faults new.console_faults
+Records start head old new LogWrite = Front start head old new × Rose old.log_faults new.log_faults
+Records start head old new NoMemory = Front start head old new
+
+-- one list is a front of the other
+abbrev pub OneIsFront : List ℕ → List ℕ → Type 0
+OneIsFront xs ys = ((rest : List ℕ) × (ys ≡ xs ++ rest)) ⊎ ((rest : List ℕ) × (xs ≡ ys ++ rest))
+
+-- a part of one event's spelling that isn't all of it
+pub record IsPartOfEvent (part : List ℕ) : Type 0 where
+  pub event : Event
+  pub is : IsEvent event
+  pub rest : List ℕ
+  pub spelled : text event ≡ part ++ rest
+  pub less : rest ≢ []
+
+-- The bytes are a front of the head; or the head, the text of events that the machine accepts from
+-- its start on, and a part of one more event. Of the console's bytes and the machine's own after
+-- these events one is a front of the other, and the clock gave the values of these events first.
+pub record IsLogOf (start : State) (head bytes : List ℕ) (console gave : Option (List ℕ))
+    : Type 0 where
+  pub events : List Event
+  pub last : State
+  pub are : AllByRecursion IsEvent events
+  pub runs : run start events ≡ Some last
+  pub spelled :
+      ((events ≡ []) × ((rest : List ℕ) × (head ≡ bytes ++ rest)))
+      ⊎ ((part : List ℕ) × (bytes ≡ head ++ (texts events ++ part)) × IsPartOfEvent part)
+  pub console_shown : IfSome console (λ shown. OneIsFront shown last.devices.uart.out)
+  pub clock_gave : IfSome gave (λ values. (rest : List ℕ) × (values ≡ clock_values events ++ rest))
+
+-- how a recording ended, whether by an END or broken off
+abbrev pub run_end_of : Result Ending Break → RunEnd
+run_end_of (Ok ending) = End ending.reason ending.code
+run_end_of (Err broke) = end_of broke

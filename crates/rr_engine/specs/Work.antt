@@ -1,0 +1,27 @@
+-- How much a recording without input has left: it falls with each event.
+use Rattle.std.specs.Prelude.{ℕ, ◌+◌, ◌-◌, ◌*◌, Bool, true, false, ◌&&◌, ◌==◌, is_none, if◌then◌else◌}
+use Rattle.rv_csr.specs.Traps.{takes_interrupts}
+use Rattle.board.specs.declared.control.Window.{Window}
+use Rattle.board.specs.declared.control.Window.TheVariants.{Idle}
+use Rattle.board.specs.State.{State}
+
+abbrev pub bit : Bool → ℕ
+bit b = if b then 1 else 0
+
+-- the window isn't an idle one without an event
+abbrev pub is_restless : Window → Bool
+is_restless (Idle false) = false
+is_restless window = true
+
+-- The turns of the budget, of which each weighs more than all marks that it may set; and the marks
+-- of which each event clears one: a trap's, an interrupt that would be taken, a checkpoint's, and
+-- so on.
+unfoldable pub work : State → ℕ
+work g =
+    8 * (g.control.budget - g.devices.time.count)
+    + bit g.control.trapped
+    + bit (takes_interrupts g.hart.csrs g.hart.mode)
+    + 2 * bit (g.control.idle && is_restless g.control.window)
+    + bit (g.control.since == g.control.slice)
+    + bit (is_none g.devices.rtc.in_hand)
+    + bit (is_none g.control.ended)

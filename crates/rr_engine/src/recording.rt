@@ -1,0 +1,145 @@
+//! A recording from its start to its end.
+
+ghost use Rattle.std.specs.Prelude.{◌≡◌, None, [], false};
+ghost use Rattle.elf_load.specs.Load.{LiesInRam};
+ghost use Rattle.event_log.specs.HeaderFormat.{IsHeader, header_text};
+ghost use Rattle.event_log.specs.Writing.{none_written};
+ghost use Rattle.rr_engine.specs.Stand.{stand};
+ghost use Rattle.rr_engine.specs.Recording.{Sent, sent_of};
+ghost use Rattle.rr_engine.specs.Runs.{Records, start_of, config_of, run_end_of};
+
+use crate::parts::{Break, RecordParts, RunEnd};
+use crate::recorder::Recorder;
+use board::{Config, Ending, Machine, Steps};
+use elf_load::Loaded;
+use event_log::{Header, StreamError, WriteBehind};
+use outside::{HostClock, Sink};
+use std::alloc::Global;
+use std::sync::ledger::Ledger;
+
+/// What a header says of the machine.
+fn config(header: &Header) -> Config
+    ensures { result ≡ config_of header.now }
+{
+    Config {
+        shift: header.shift,
+        ram_mib: header.ram_mib,
+        slice: header.slice,
+        budget: header.budget,
+        disk_len: header.disk_len,
+    }
+}
+
+/// Records the run of a firmware, whose log begins with the header.
+///
+/// The header is one write. What is recorded goes out whenever 65,536 bytes have gathered, and at
+/// the end. The console's bytes are written at each checkpoint and before an END of the machine's
+/// own. The first device that fails ends the recording: where it is the console's at a checkpoint,
+/// by END 3, which the log then has.
+pub fn record_one<K: Sink, C: HostClock, L: Ledger>(
+    alloc: Global,
+    header: &Header,
+    firmware: &Loaded,
+    parts: &mut RecordParts<K, C>,
+    steps: &mut Steps<L>,
+) -> RunEnd
+    requires header { IsHeader header.now }
+    requires firmware { LiesInRam header.now.ram_mib firmware.now }
+    ensures { Records (start_of header.now firmware.now) (header_text header.now)
+        parts.old parts.new result }
+{
+    let Ok(machine) = Machine::reset(alloc, &config(header), firmware) else {
+        return RunEnd::NoMemory;
+    };
+    let Ok(log) = WriteBehind::new(alloc) else {
+        return RunEnd::NoMemory;
+    };
+    let mut recorder = Recorder { machine, log };
+    run_end(recorder.record(alloc, header, parts, steps))
+}
+
+/// How a recording ended, whether by an END or broken off.
+fn run_end(recorded: Result<Ending, Break>) -> RunEnd
+    ensures { result ≡ run_end_of recorded }
+{
+    match recorded {
+        Ok(ending) => RunEnd::End {
+            reason: ending.reason,
+            code: ending.code,
+        },
+        Err(broke) => broke.end(),
+    }
+}
+
+impl Recorder {
+    /// The header, what is due until the run has ended, and the rest of the log.
+    fn record<K: Sink, C: HostClock, L: Ledger>(
+        &mut self,
+        alloc: Global,
+        header: &Header,
+        parts: &mut RecordParts<K, C>,
+        steps: &mut Steps<L>,
+    ) -> Result<Ending, Break>
+        requires header { IsHeader header.now }
+        requires log { self.old.log ≡ none_written }
+        requires going { self.old.machine.control.ended ≡ None }
+        ensures { Records self.old.machine (header_text header.now) parts.old parts.new
+            (run_end_of result) }
+    {
+        match self.begin(alloc, header, parts) {
+            Ok(()) => {}
+            Err(broke) => return Err(broke),
+        }
+        match self.run(alloc, parts, steps) {
+            Ok(()) => {}
+            Err(broke) => return Err(broke),
+        }
+        match self.finish(parts) {
+            Ok(()) => {}
+            Err(broke) => return Err(broke),
+        }
+        match self.machine.ended() {
+            Some(ending) => Ok(ending),
+            None => unreachable!(),
+        }
+    }
+
+    /// The log gets the header.
+    fn begin<K: Sink, C: HostClock>(
+        &mut self,
+        alloc: Global,
+        header: &Header,
+        parts: &mut RecordParts<K, C>,
+    ) -> Result<(), Break>
+        requires header { IsHeader header.now }
+        requires log { self.old.log ≡ none_written }
+        ensures sent { Sent (stand self.old.machine self.old.log parts.old)
+            (stand self.new.machine self.new.log parts.new) (header_text header.now) result }
+        ensures held { self.new.log.held ≡ [] }
+    {
+        sent(self.log.header(alloc, header, &mut parts.log))
+    }
+
+    /// What is held of the log is written.
+    pub fn finish<K: Sink, C: HostClock>(
+        &mut self,
+        parts: &mut RecordParts<K, C>,
+    ) -> Result<(), Break>
+        requires { self.old.log.failed ≡ false }
+        ensures { Sent (stand self.old.machine self.old.log parts.old)
+            (stand self.new.machine self.new.log parts.new) self.old.log.held result }
+    {
+        sent(self.log.finish(&mut parts.log))
+    }
+}
+
+/// What a write to the log came to.
+fn sent(written: Result<(), StreamError>) -> Result<(), Break>
+    ensures { result ≡ sent_of written }
+{
+    match written {
+        Ok(()) => Ok(()),
+        Err(StreamError::NoMemory) => Err(Break::NoMemory),
+        Err(_) => Err(Break::LogWrite),
+    }
+}

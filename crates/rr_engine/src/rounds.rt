@@ -1,0 +1,112 @@
+//! What is due, round after round.
+
+ghost use Rattle.std.specs.Prelude.{◌≡◌, ◌<◌, OnOk, None, IsSome, false};
+ghost use Rattle.board.specs.Due.{due};
+ghost use Rattle.board.specs.Answers.{Counts};
+ghost use Rattle.rr_engine.specs.Stand.{stand};
+ghost use Rattle.rr_engine.specs.Recording.{Goes, EndsByItself};
+ghost use Rattle.rr_engine.specs.Work.{work};
+
+use crate::parts::{Break, RecordParts};
+use crate::recorder::Recorder;
+use board::{Due, Steps};
+use event_log::Event;
+use outside::{HostClock, Sink};
+use std::alloc::Global;
+use std::sync::ledger::Ledger;
+
+impl Recorder {
+    /// As many turns as run, as one INSTRUCTION.
+    fn turns<K: Sink, C: HostClock, L: Ledger>(
+        &mut self,
+        alloc: Global,
+        parts: &mut RecordParts<K, C>,
+        steps: &mut Steps<L>,
+    ) -> Result<(), Break>
+        requires works { self.old.log.failed ≡ false }
+        requires due { due self.old.machine ≡ Due.Run }
+        requires going { self.old.machine.control.ended ≡ None }
+        requires counts { Counts self.old.machine.control self.old.machine.devices.time }
+        ensures goes { Goes (stand self.old.machine self.old.log parts.old)
+            (stand self.new.machine self.new.log parts.new) result }
+        ensures works { OnOk result (self.new.log.failed ≡ false) }
+        ensures progress { OnOk result (work self.new.machine < work self.old.machine) }
+        ensures own { OnOk result (EndsByItself self.new.machine) }
+    {
+        match self.machine.run(u32::MAX, steps) {
+            Ok(count) => self.note(alloc, Event::Instruction(count), parts),
+            Err(_) => Err(Break::NoMemory),
+        }
+    }
+
+    /// A value of the host's clock, as one CLOCK.
+    fn clock<K: Sink, C: HostClock>(
+        &mut self,
+        alloc: Global,
+        parts: &mut RecordParts<K, C>,
+    ) -> Result<(), Break>
+        requires works { self.old.log.failed ≡ false }
+        requires due { due self.old.machine ≡ Due.Clock }
+        requires going { self.old.machine.control.ended ≡ None }
+        requires counts { Counts self.old.machine.control self.old.machine.devices.time }
+        ensures goes { Goes (stand self.old.machine self.old.log parts.old)
+            (stand self.new.machine self.new.log parts.new) result }
+        ensures works { OnOk result (self.new.log.failed ≡ false) }
+        ensures progress { OnOk result (work self.new.machine < work self.old.machine) }
+        ensures own { OnOk result (EndsByItself self.new.machine) }
+    {
+        let value = parts.now();
+        self.enter(alloc, Event::Clock(value), parts)
+    }
+
+    /// What is due, whatever it is.
+    pub fn round<K: Sink, C: HostClock, L: Ledger>(
+        &mut self,
+        alloc: Global,
+        parts: &mut RecordParts<K, C>,
+        steps: &mut Steps<L>,
+    ) -> Result<(), Break>
+        requires works { self.old.log.failed ≡ false }
+        requires going { self.old.machine.control.ended ≡ None }
+        ensures goes { Goes (stand self.old.machine self.old.log parts.old)
+            (stand self.new.machine self.new.log parts.new) result }
+        ensures works { OnOk result (self.new.log.failed ≡ false) }
+        ensures progress { OnOk result (work self.new.machine < work self.old.machine) }
+        ensures own { OnOk result (EndsByItself self.new.machine) }
+    {
+        match self.machine.due() {
+            Due::Run => self.turns(alloc, parts, steps),
+            Due::Exception => self.enter(alloc, Event::Exception, parts),
+            Due::Interrupt => self.enter(alloc, Event::Interrupt, parts),
+            Due::Clock => self.clock(alloc, parts),
+            Due::Idle => self.checkpoint(alloc, true, parts),
+            Due::Slice => self.checkpoint(alloc, false, parts),
+            Due::End { reason, code } => self.conclude(alloc, reason, code, parts),
+            Due::Wait | Due::Nothing => unreachable!(),
+        }
+    }
+
+    /// Round after round, until the run has ended.
+    pub fn run<K: Sink, C: HostClock, L: Ledger>(
+        &mut self,
+        alloc: Global,
+        parts: &mut RecordParts<K, C>,
+        steps: &mut Steps<L>,
+    ) -> Result<(), Break>
+        requires works { self.old.log.failed ≡ false }
+        requires going { self.old.machine.control.ended ≡ None }
+        ensures goes { Goes (stand self.old.machine self.old.log parts.old)
+            (stand self.new.machine self.new.log parts.new) result }
+        ensures works { OnOk result (self.new.log.failed ≡ false) }
+        ensures ended { OnOk result (IsSome self.new.machine.control.ended) }
+        ensures own { OnOk result (EndsByItself self.new.machine) }
+    {
+        'rounds: while self.machine.ended().is_none() {
+            match self.round(alloc, parts, steps) {
+                Ok(()) => {}
+                Err(broke) => return Err(broke),
+            }
+        }
+        Ok(())
+    }
+}
