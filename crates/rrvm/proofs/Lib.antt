@@ -1,0 +1,7 @@
+pub mod ReadLemmas
+pub mod Ranges
+pub mod Fresh
+pub mod Logs
+pub mod FileHeld
+pub mod Ran
+pub mod Telling

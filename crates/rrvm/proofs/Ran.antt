@@ -1,0 +1,124 @@
+-- What a run over a world comes to, by how its recording ended.
+use Rattle.std.proofs.Common.{◌≡◌, ◌≤◌, ℕ, Bool, true, false, refl, List, [], length, sym, ap, ◌∙◌, subst, arith}
+use Rattle.std.specs.Prelude.{Some, None, IfSome, ◌==◌, if◌then◌else◌}
+use Rattle.std.specs.declared.option.Option.{Option}
+use Rattle.std.proofs.lemmas.Bool.{eqb-true, eqb-false}
+use Rattle.outside.specs.Causes.{Rose}
+use Rattle.outside.specs.Ledger.{Ledger}
+use Rattle.outside.specs.Roles.{at}
+use Rattle.outside.specs.declared.roles.Role.TheVariants.{ConsoleOut, LogOut}
+use Rattle.command_line.specs.Words.{Recording, Records}
+use Rattle.elf_load.specs.declared.pieces.Loaded.{Loaded}
+use Rattle.event_log.specs.declared.header.Header.{Header}
+use Rattle.event_log.specs.HeaderFormat.{header_text}
+use Rattle.board.specs.Reset.{reset}
+use Rattle.rr_engine.specs.Runs.{start_of, IsOwnReason, IsLogOf}
+use Rattle.rrvm.specs.declared.firmware.Firmware.{Firmware}
+use Rattle.rrvm.specs.declared.firmware.TheConstants.{FIRMWARE_LIMIT}
+use Rattle.rrvm.specs.declared.recording.RecordingEnd.{RecordingEnd}
+use Rattle.rrvm.specs.declared.recording.RecordingEnd.TheVariants as ends
+use Rattle.rrvm.specs.declared.outcome.Outcome.{Outcome}
+use Rattle.rrvm.specs.declared.outcome.Outcome.TheVariants as outcome
+use Rattle.rrvm.specs.Firmwares.{IsFirmwareOf}
+use Rattle.rrvm.specs.Recordings.{header_of, HasWhole, HasFront, IsRecorded, IsLogged, IsGood}
+use Rattle.rrvm.specs.Endings.{IfEnds}
+use Rattle.rrvm.specs.Asking.{recording_header, ending_outcome_of}
+use Rattle.rrvm.specs.Answers.{Cause}
+use Rattle.rrvm.proofs.Logs.{is_log}
+
+-- a file that was held gave this firmware
+abbrev pub Gives : Option (List ℕ) → ℕ → Firmware → Type 0
+Gives held mib f = IfSome held (λ file. IsFirmwareOf file mib f × (length file ≤ FIRMWARE_LIMIT))
+
+start-quiet : (h : Header) (firmware : Loaded) → (start_of h firmware).devices.uart.out ≡ []
+unfolding reset
+start-quiet h firmware = refl
+
+header-same : (r : Recording) (file : List ℕ) (f : Firmware) (h : Header) → h ≡ recording_header r f.digest
+    → IsFirmwareOf file r.ram_mib f → h ≡ header_of r file
+header-same r file f h same is = same ∙ ap (λ digest. recording_header r digest) is.digest
+
+logged-as : (start : Loaded) (r : Recording) (file : List ℕ) (l : Ledger) → HasFront (header_of r file) start l
+    → IfSome (at l.last LogOut) (λ bytes.
+    IsLogOf (start_of (header_of r file) start) (header_text (header_of r file)) bytes (at l.last ConsoleOut) l.clock)
+logged-as firmware r file l front =
+    is_log (start_of (header_of r file) firmware) (header_text (header_of r file)) (at l.last LogOut) (at l.last ConsoleOut) l.clock
+    (start-quiet (header_of r file) firmware) front
+
+pub run-logged : (held : Option (List ℕ)) (r : Recording) (f : Firmware) (h : Header) (l : Ledger) → Gives held r.ram_mib f
+    → h ≡ recording_header r f.digest → HasFront h f.loaded l → IfSome held (λ file. IsLogged r file l)
+run-logged None r f h l gives same front = tt
+run-logged (Some file) r f h l gives same front = record {
+  firmware = f.loaded;
+  loads = gives.0.loads;
+  log = logged-as f.loaded r file l
+      (subst (λ (z : Header). HasFront z f.loaded l) (header-same r file f h same gives.0) front);
+}
+
+run-recorded : (held : Option (List ℕ)) (r : Recording) (f : Firmware) (h : Header) (l : Ledger) (reason code : ℕ)
+    → Gives held r.ram_mib f → h ≡ recording_header r f.digest → HasWhole h f.loaded l reason code
+    → IfSome held (λ file. IsRecorded r file l reason code)
+run-recorded None r f h l reason code gives same whole = tt
+run-recorded (Some file) r f h l reason code gives same whole = record {
+  firmware = f.loaded;
+  loads = gives.0.loads;
+  fits = gives.1;
+  whole = subst (λ (z : Header). HasWhole z f.loaded l reason code) (header-same r file f h same gives.0) whole;
+}
+
+run-good : (held : Option (List ℕ)) (r : Recording) (f : Firmware) → Gives held r.ram_mib f → IfSome held (λ file. IsGood r file)
+run-good None r f gives = tt
+run-good (Some file) r f gives = record { firmware = f.loaded; loads = gives.0.loads; fits = gives.1 }
+
+by-reason : (r : Recording) (old new : Ledger) (reason code : ℕ) (a b : Bool) → (reason == 0) ≡ a → (reason == 1) ≡ b
+    → IsOwnReason reason code → IfSome (old.names r.bios) (λ file. IsRecorded r file new reason code)
+    → Cause (Records r) old new (if a then outcome.GuestEnded code else if b then outcome.IdleForEver else outcome.BudgetReached)
+by-reason r old new reason code true b e f own k =
+    (tt, subst (λ (z : ℕ). IfSome (old.names r.bios) (λ file. IsRecorded r file new z code)) (eqb-true reason 0 e) k)
+by-reason r old new reason code false true e f own k =
+    let one = eqb-true reason 1 f in
+    let none = own.1 (omega (arith, one)) in (
+      tt,
+      subst (λ (z : ℕ). IfSome (old.names r.bios) (λ file. IsRecorded r file new z 0)) one
+          (subst (λ (z : ℕ). IfSome (old.names r.bios) (λ file. IsRecorded r file new reason z)) none k),
+    )
+by-reason r old new reason code false false e f own k =
+    let not_zero = eqb-false reason 0 e in
+    let not_one = eqb-false reason 1 f in
+    let two : reason ≡ 2 = omega (arith, not_zero, not_one, own.0) in
+    let none = own.1 (omega (arith, two)) in (
+      tt,
+      subst (λ (z : ℕ). IfSome (old.names r.bios) (λ file. IsRecorded r file new z 0)) two
+          (subst (λ (z : ℕ). IfSome (old.names r.bios) (λ file. IsRecorded r file new reason z)) none k),
+    )
+
+ending-cause : (r : Recording) (old mid new : Ledger) (f : Firmware) (h : Header) (end : RecordingEnd) → Gives (old.names r.bios) r.ram_mib f
+    → h ≡ recording_header r f.digest → IfEnds end (λ reason code. HasWhole h f.loaded new reason code)
+    → (end ≡ ends.CannotOpenLog → Rose mid.opening_faults new.opening_faults)
+    → (end ≡ ends.ConsoleFailed → Rose (at mid.faults ConsoleOut) (at new.faults ConsoleOut))
+    → (end ≡ ends.LogFailed → Rose (at mid.faults LogOut) (at new.faults LogOut))
+    → mid.opening_faults ≡ old.opening_faults → at mid.faults ConsoleOut ≡ at old.faults ConsoleOut
+    → at mid.faults LogOut ≡ at old.faults LogOut
+    → Cause (Records r) old new (ending_outcome_of end)
+ending-cause r old mid new f h (ends.End reason code) gives same whole a b c p q s =
+    by-reason r old new reason code (reason == 0) (reason == 1) refl refl whole.1
+    (run-recorded (old.names r.bios) r f h new reason code gives same whole.0)
+ending-cause r old mid new f h ends.CannotOpenLog gives same whole a b c p q s =
+    (tt, subst (λ (z : ℕ). Rose z new.opening_faults) p (a refl))
+ending-cause r old mid new f h ends.ConsoleFailed gives same whole a b c p q s =
+    (subst (λ (z : ℕ). Rose z (at new.faults ConsoleOut)) q (b refl), run-good (old.names r.bios) r f gives)
+ending-cause r old mid new f h ends.LogFailed gives same whole a b c p q s =
+    (tt, subst (λ (z : ℕ). Rose z (at new.faults LogOut)) s (c refl), run-good (old.names r.bios) r f gives)
+ending-cause r old mid new f h ends.NoMemory gives same whole a b c p q s = tt
+
+pub run-cause : (r : Recording) (old mid new : Ledger) (f : Firmware) (h : Header) (end : RecordingEnd) (result : Outcome)
+    → result ≡ ending_outcome_of end → Gives (old.names r.bios) r.ram_mib f
+    → h ≡ recording_header r f.digest → IfEnds end (λ reason code. HasWhole h f.loaded new reason code)
+    → (end ≡ ends.CannotOpenLog → Rose mid.opening_faults new.opening_faults)
+    → (end ≡ ends.ConsoleFailed → Rose (at mid.faults ConsoleOut) (at new.faults ConsoleOut))
+    → (end ≡ ends.LogFailed → Rose (at mid.faults LogOut) (at new.faults LogOut))
+    → mid.opening_faults ≡ old.opening_faults → at mid.faults ConsoleOut ≡ at old.faults ConsoleOut
+    → at mid.faults LogOut ≡ at old.faults LogOut
+    → Cause (Records r) old new result
+run-cause r old mid new f h end result is gives same whole a b c p q s =
+    subst (λ (z : Outcome). Cause (Records r) old new z) (sym is) (ending-cause r old mid new f h end gives same whole a b c p q s)

@@ -1,0 +1,111 @@
+//! The line that the messages get for an outcome.
+
+ghost use Rattle.std.specs.Prelude.{◌≡◌, ◌++◌, IfOk, map, string_bytes, codes};
+ghost use Rattle.std.specs.Fmt.{decimal};
+ghost use Rattle.command_line.specs.Line.{seen_line};
+ghost use Rattle.rrvm.specs.Messages.{bios_name, log_name, file_name, rule_name, word_of, line_of};
+
+use crate::outcome::Outcome;
+use command_line::Line;
+use elf_load::LoadError;
+use outside::Role;
+use std::alloc::{AllocError, Global};
+
+fn bios<'a>(line: &Line<'a>) -> &'a str
+    ensures { result.now ≡ bios_name (seen_line line.now) }
+{
+    match line {
+        Line::Record(words) => words.bios,
+        _ => "",
+    }
+}
+
+fn log<'a>(line: &Line<'a>) -> &'a str
+    ensures { result.now ≡ log_name (seen_line line.now) }
+{
+    match line {
+        Line::Record(words) => words.log,
+        _ => "",
+    }
+}
+
+/// The name of a role's file.
+fn file<'a>(line: &Line<'a>, role: Role) -> &'a str
+    ensures { result.now ≡ file_name (seen_line line.now) role }
+{
+    match role {
+        Role::Firmware => bios(line),
+        _ => log(line),
+    }
+}
+
+/// The rule's name, in lower case.
+fn rule_name(rule: LoadError) -> &'static str
+    ensures { result.now ≡ rule_name rule }
+{
+    match rule {
+        LoadError::TooLong => "toolong",
+        LoadError::Cut => "cut",
+        LoadError::Class => "class",
+        LoadError::Encoding => "encoding",
+        LoadError::FileType => "filetype",
+        LoadError::Machine => "machine",
+        LoadError::Entry => "entry",
+        LoadError::Headers => "headers",
+        LoadError::Sizes => "sizes",
+        LoadError::File => "file",
+        LoadError::Memory => "memory",
+        LoadError::NoMemory => "nomemory",
+    }
+}
+
+fn word(words: &[String], number: usize) -> &str
+    ensures { result.now ≡ word_of (map string_bytes words.now) number }
+{
+    match words.get(number) {
+        Some(word) => word.as_str(),
+        None => "",
+    }
+}
+
+fn bad_word(alloc: Global, number: usize, word: &str) -> Result<String, AllocError>
+    ensures { IfOk result (λ s. string_bytes s
+        ≡ codes "rrvm: bad word " ++ decimal number ++ codes ": " ++ word.now ++ codes "\n") }
+{
+    format!(in alloc; "rrvm: bad word {number}: {word}\n")
+}
+
+/// The line for an outcome: nothing at status 0.
+pub(crate) fn message(
+    alloc: Global,
+    words: &[String],
+    line: &Line<'_>,
+    outcome: Outcome,
+) -> Result<String, AllocError>
+    ensures { IfOk result (λ s. string_bytes s
+        ≡ line_of (map string_bytes words.now) (seen_line line.now) outcome) }
+{
+    match outcome {
+        Outcome::Printed | Outcome::GuestEnded(0) => Ok(String::new(alloc)),
+        Outcome::GuestEnded(code) => format!(in alloc; "rrvm: guest ended with code {code}\n"),
+        Outcome::IdleForEver => String::from_str(alloc, "rrvm: idle for ever\n"),
+        Outcome::BudgetReached => String::from_str(alloc, "rrvm: budget reached\n"),
+        Outcome::BadWord(number) => bad_word(alloc, number, word(words, number)),
+        Outcome::WordsMissing => String::from_str(alloc, "rrvm: words end early\n"),
+        Outcome::CannotOpen(role) => {
+            let name = file(line, role);
+            format!(in alloc; "rrvm: cannot open or read {name}\n")
+        }
+        Outcome::CannotRead => {
+            let name = bios(line);
+            format!(in alloc; "rrvm: cannot open or read {name}\n")
+        }
+        Outcome::ConsoleFailed => String::from_str(alloc, "rrvm: console output failed\n"),
+        Outcome::LogFailed => String::from_str(alloc, "rrvm: log output failed\n"),
+        Outcome::BadFirmware(rule) => {
+            let name = rule_name(rule);
+            format!(in alloc; "rrvm: bad firmware: {name}\n")
+        }
+        Outcome::NoMemory => String::from_str(alloc, "rrvm: no memory\n"),
+    }
+}

@@ -1,0 +1,77 @@
+//! The texts that are printed alone.
+
+ghost use Rattle.std.specs.Prelude.{◌≡◌, ◌<◌, Some, [], OnOk, IsErrOf};
+ghost use Rattle.outside.specs.Causes.{Rose};
+ghost use Rattle.outside.specs.Told.{Takes, TakesFront};
+ghost use Rattle.outside.specs.Roles.{at};
+ghost use Rattle.outside.specs.declared.roles.Role.TheVariants.{ConsoleOut};
+ghost use Rattle.rrvm.specs.Ledgers.{only, Balanced};
+
+use outside::{Careful, Role, World};
+
+/// What `--version` prints.
+pub const VERSION: &str = "rrvm 0.1\n";
+
+/// What `--help` prints.
+pub const HELP: &str = "\
+rrvm records one run of a RISC-V machine (RV32IMA, machine and user mode) in a
+log that a one-thread machine accepts event by event.
+
+usage: rrvm -icount shift=N,rr=record,rrfile=LOG -bios FILE
+            [-m MIB] [-budget T] [-slice S]
+       rrvm --help | --version
+
+  -icount   shift=N     one turn costs 2^N nanoseconds of the guest, 0 to 10
+            rr=record   record
+            rrfile=LOG  the log, made empty first
+  -bios     the firmware: an ELF executable for RV32, or raw bytes at 0x80000000
+  -m        RAM in MiB, 1 to 64 (16)
+  -budget   the most turns, 1 to 2^40 (1000000000)
+  -slice    turns between two checkpoints, 1 to 65536 (10000)
+
+The console is standard output, messages go to standard error. The guest ends
+its run by a write of 0x5555 to 0x100000, or of CODE * 65536 + 0x3333.
+
+status
+   0  the guest ended with code 0         8  bad firmware
+   1  bad words                          10  the guest ended with another code
+   2  a file can't be opened or read     12  idle for ever
+   4  console output failed              13  budget reached
+   5  log output failed                  30  no memory
+
+example: rrvm -icount shift=0,rr=record,rrfile=a.log -bios letter.bin
+";
+
+/// Why a text wasn't printed.
+#[derive(Clone, Copy, Debug, PartialEq, Eq)]
+pub(crate) enum PrintFault {
+    Failed,
+    NoMemory,
+}
+
+/// Prints a text to standard output.
+#[tactic(auto, using(outside::proofs::Fronts::starts))]
+pub(crate) fn print<W: World>(text: &str, world: &mut W) -> Result<(), PrintFault>
+    ensures whole { OnOk result
+        (Takes (Some []) (at (W.ledger world.new).last ConsoleOut) text.now) }
+    ensures kept { OnOk result (at (W.ledger world.new).faults ConsoleOut
+        ≡ at (W.ledger world.old).faults ConsoleOut) }
+    ensures front { at (W.ledger world.old).opened ConsoleOut < at (W.ledger world.new).opened ConsoleOut
+        → TakesFront (Some []) (at (W.ledger world.new).last ConsoleOut) text.now }
+    ensures failed { IsErrOf result PrintFault.Failed
+        → Rose (at (W.ledger world.old).faults ConsoleOut)
+        (at (W.ledger world.new).faults ConsoleOut) }
+    ensures balanced { Balanced ConsoleOut (W.ledger world.old) (W.ledger world.new) }
+    ensures rest { W.ledger world.new ≡ only ConsoleOut (W.ledger world.old) (W.ledger world.new) }
+{
+    let mut console = match world.sink(Role::ConsoleOut, None) {
+        Ok(sink) => Careful::new(sink),
+        Err(_) => return Err(PrintFault::NoMemory),
+    };
+    let written = console.put_all(text.as_bytes());
+    world.take_sink(Role::ConsoleOut, console.into_inner());
+    match written {
+        Ok(()) => Ok(()),
+        Err(_) => Err(PrintFault::Failed),
+    }
+}

@@ -1,0 +1,146 @@
+//! A recording over the devices of a world.
+
+ghost use Rattle.std.specs.Prelude.{◌≡◌, ◌<◌, ◌≤◌, ℕ, Some, [], IfOk, IfErr, OnOk, OnErr};
+ghost use Rattle.outside.specs.Causes.{Rose};
+ghost use Rattle.outside.specs.Ledger.{opens, opens_clock, StartsEmpty, sink_back, clock_back};
+ghost use Rattle.outside.specs.Roles.{at};
+ghost use Rattle.outside.specs.declared.roles.Role.TheVariants.{ConsoleOut, LogOut};
+ghost use Rattle.event_log.specs.HeaderFormat.{IsHeader, header_text};
+ghost use Rattle.elf_load.specs.Load.{LiesInRam};
+ghost use Rattle.rrvm.specs.Ledgers.{only_recording, Balanced, ClocksBalanced};
+ghost use Rattle.rrvm.specs.Recordings.{HasFront, HasWhole};
+ghost use Rattle.rrvm.specs.Endings.{IfEnds, IsFresh, OpensNothing, RecordingKept, recording_end_of};
+
+use board::Steps;
+use elf_load::Loaded;
+use event_log::Header;
+use outside::{Careful, OpenError, Role, World};
+use rr_engine::{RecordParts, RunEnd, record_one};
+use std::alloc::Global;
+use std::sync::ledger::Ledger;
+
+/// How a recording over the devices of a world ended.
+#[derive(Clone, Copy, Debug, PartialEq, Eq)]
+pub(crate) enum RecordingEnd {
+    /// By the END event of this reason and code.
+    End { reason: u8, code: u32 },
+    CannotOpenLog,
+    ConsoleFailed,
+    LogFailed,
+    NoMemory,
+}
+
+/// Opens the console, the clock and the log, the log last.
+fn open<W: World>(log: &str, world: &mut W) -> Result<RecordParts<W::Sink, W::Clock>, RecordingEnd>
+    ensures opened { OnOk result (W.ledger world.new
+        ≡ opens (opens_clock (opens (W.ledger world.old) ConsoleOut)) LogOut) }
+    ensures fresh { IfOk result IsFresh }
+
+    ensures fault { IfErr result OpensNothing }
+    ensures unopened { result ≡ Err RecordingEnd.CannotOpenLog
+        → Rose (W.ledger world.old).opening_faults (W.ledger world.new).opening_faults }
+    ensures log_closed { OnErr result (at (W.ledger world.new).opened LogOut
+        ≡ at (W.ledger world.old).opened LogOut) }
+    ensures balanced_log { OnErr result
+        (Balanced LogOut (W.ledger world.old) (W.ledger world.new)) }
+    ensures balanced_console { OnErr result
+        (Balanced ConsoleOut (W.ledger world.old) (W.ledger world.new)) }
+    ensures balanced_clock { OnErr result
+        (ClocksBalanced (W.ledger world.old) (W.ledger world.new)) }
+    ensures rest { OnErr result (W.ledger world.new
+        ≡ only_recording (W.ledger world.old) (W.ledger world.new)) }
+{
+    let out = match world.sink(Role::ConsoleOut, None) {
+        Ok(sink) => Careful::new(sink),
+        Err(_) => return Err(RecordingEnd::NoMemory),
+    };
+    let clock = world.clock();
+    match world.sink(Role::LogOut, Some(log)) {
+        Ok(sink) => Ok(RecordParts {
+            out,
+            log: Careful::new(sink),
+            clock,
+        }),
+        Err(error) => {
+            world.take_sink(Role::ConsoleOut, out.into_inner());
+            world.take_clock(clock);
+            Err(open_fault(error))
+        }
+    }
+}
+
+/// Why the log wasn't opened.
+fn open_fault(error: OpenError) -> RecordingEnd
+    ensures failed { error ≡ OpenError.Failed → result ≡ RecordingEnd.CannotOpenLog }
+    ensures memory { error ≡ OpenError.NoMemory → result ≡ RecordingEnd.NoMemory }
+{
+    match error {
+        OpenError::Failed => RecordingEnd::CannotOpenLog,
+        OpenError::NoMemory => RecordingEnd::NoMemory,
+    }
+}
+
+/// Gives the devices back.
+fn close<W: World>(parts: RecordParts<W::Sink, W::Clock>, world: &mut W)
+    ensures { W.ledger world.new ≡ clock_back
+        (sink_back (sink_back (W.ledger world.old) LogOut parts.log_faults parts.log)
+        ConsoleOut parts.console_faults parts.console) parts.gave }
+{
+    let RecordParts { out, log, clock } = parts;
+    world.take_sink(Role::LogOut, log.into_inner());
+    world.take_sink(Role::ConsoleOut, out.into_inner());
+    world.take_clock(clock);
+}
+
+/// Records the run of a firmware into a log of this name.
+#[tactic(auto, using(crate::proofs::Fresh::fresh))]
+pub(crate) fn record<W: World, L: Ledger>(
+    alloc: Global,
+    header: &Header,
+    firmware: &Loaded,
+    log: &str,
+    world: &mut W,
+    steps: &mut Steps<L>,
+) -> RecordingEnd
+    requires header { IsHeader header.now }
+    requires firmware { LiesInRam header.now.ram_mib firmware.now }
+    ensures whole { IfEnds result (λ reason code.
+        HasWhole header.now firmware.now (W.ledger world.new) reason code) }
+    ensures kept { IfEnds result (λ _ _. RecordingKept (W.ledger world.old) (W.ledger world.new)) }
+    ensures front { at (W.ledger world.old).opened LogOut < at (W.ledger world.new).opened LogOut
+        → HasFront header.now firmware.now (W.ledger world.new) }
+
+    ensures unopened { result ≡ RecordingEnd.CannotOpenLog
+        → Rose (W.ledger world.old).opening_faults (W.ledger world.new).opening_faults }
+    ensures console_fault { result ≡ RecordingEnd.ConsoleFailed
+        → Rose (at (W.ledger world.old).faults ConsoleOut)
+        (at (W.ledger world.new).faults ConsoleOut) }
+    ensures log_fault { result ≡ RecordingEnd.LogFailed
+        → Rose (at (W.ledger world.old).faults LogOut) (at (W.ledger world.new).faults LogOut) }
+
+    ensures balanced_log { Balanced LogOut (W.ledger world.old) (W.ledger world.new) }
+    ensures balanced_console { Balanced ConsoleOut (W.ledger world.old) (W.ledger world.new) }
+    ensures balanced_clock { ClocksBalanced (W.ledger world.old) (W.ledger world.new) }
+    ensures rest { W.ledger world.new
+        ≡ only_recording (W.ledger world.old) (W.ledger world.new) }
+{
+    let mut parts = match open(log, world) {
+        Ok(parts) => parts,
+        Err(end) => return end,
+    };
+    let end = record_one(alloc, header, firmware, &mut parts, steps);
+    close(parts, world);
+    recording_end(end)
+}
+
+/// The same end, as a recording over a world has it.
+fn recording_end(end: RunEnd) -> RecordingEnd
+    ensures { result ≡ recording_end_of end }
+{
+    match end {
+        RunEnd::End { reason, code } => RecordingEnd::End { reason, code },
+        RunEnd::ConsoleWrite => RecordingEnd::ConsoleFailed,
+        RunEnd::LogWrite => RecordingEnd::LogFailed,
+        RunEnd::NoMemory => RecordingEnd::NoMemory,
+    }
+}

@@ -1,0 +1,231 @@
+//! The top call: what the words ask for is done over a world, and the messages say how it ended.
+
+ghost use Rattle.std.specs.Prelude.{◌≡◌, ◌≢◌, ◌<◌, ◌≤◌, ◌⊎◌, ℕ, List, [], Some, Ok, OnOk, OnErr, length, map, string_bytes};
+ghost use Rattle.outside.specs.Causes.{Rose, Stood};
+ghost use Rattle.outside.specs.Told.{Takes, TakesFront};
+ghost use Rattle.outside.specs.Roles.{at};
+ghost use Rattle.outside.specs.declared.roles.Role.{Role as ARole};
+ghost use Rattle.outside.specs.declared.roles.Role.TheVariants.{ConsoleOut, LogOut, Messages, Firmware as FirmwareRole};
+ghost use Rattle.command_line.specs.Words.{Recording, Records, IsBadLine};
+ghost use Rattle.command_line.specs.Line.{seen_line, line_in};
+ghost use Rattle.elf_load.specs.declared.error.LoadError.{LoadError};
+ghost use Rattle.elf_load.specs.declared.error.LoadError.TheVariants as load_error;
+ghost use Rattle.rrvm.specs.Ledgers.{only, only_run, Balanced, ClocksBalanced, NoDisk, CountsKept, CountsStood};
+ghost use Rattle.rrvm.specs.Messages.{line_of};
+ghost use Rattle.rrvm.specs.Firmwares.{IsBadFirmware};
+ghost use Rattle.rrvm.specs.Recordings.{IsGood, IsLogged, IsLineInRange};
+ghost use Rattle.rrvm.specs.Answers.{Cause, Explained, IfRecords, IfRan, IsEnded, IsPrinted, IsWordFault, HasRun};
+
+use crate::message::message;
+use crate::outcome::Outcome;
+use crate::printing::{HELP, PrintFault, VERSION, print};
+use crate::run::run;
+use board::Steps;
+use command_line::{Line, read_line};
+use outside::{Careful, Role, World};
+use std::alloc::{AllocError, Global};
+use std::marker::Brand;
+use std::sync::Wait;
+use std::sync::ledger::{Blank, Ledger};
+use std::thread::Threads;
+
+/// The program's exit status.
+#[derive(Clone, Copy, Debug, PartialEq, Eq)]
+pub struct Status {
+    pub code: u8,
+}
+
+/// Writes the line to the messages. A fault there changes nothing.
+#[tactic(auto, using(outside::proofs::Fronts::starts))]
+fn say<W: World>(text: &str, world: &mut W) -> Result<(), AllocError>
+    ensures unopened { OnErr result (at (W.ledger world.new).opened Messages
+        ≡ at (W.ledger world.old).opened Messages) }
+    ensures front { at (W.ledger world.old).opened Messages < at (W.ledger world.new).opened Messages
+        → TakesFront (Some []) (at (W.ledger world.new).last Messages) text.now }
+    ensures whole { OnOk result
+        (Stood (at (W.ledger world.old).faults Messages) (at (W.ledger world.new).faults Messages)
+        → Takes (Some []) (at (W.ledger world.new).last Messages) text.now) }
+    ensures balanced { Balanced Messages (W.ledger world.old) (W.ledger world.new) }
+    ensures rest { W.ledger world.new ≡ only Messages (W.ledger world.old) (W.ledger world.new) }
+{
+    let mut messages = match world.sink(Role::Messages, None) {
+        Ok(sink) => Careful::new(sink),
+        Err(_) => return Err(AllocError),
+    };
+    let _ = messages.put_all(text.as_bytes());
+    world.take_sink(Role::Messages, messages.into_inner());
+    Ok(())
+}
+
+/// Says how it ended. Where memory is refused for that, this is how it ended.
+fn tell<W: World>(
+    alloc: Global,
+    words: &[String],
+    line: &Line<'_>,
+    outcome: Outcome,
+    world: &mut W,
+) -> Outcome
+    ensures which { (result ≡ outcome) ⊎ (result ≡ Outcome.NoMemory) }
+    ensures front { at (W.ledger world.old).opened Messages < at (W.ledger world.new).opened Messages
+        → TakesFront (Some []) (at (W.ledger world.new).last Messages)
+        (line_of (map string_bytes words.now) (seen_line line.now) result) }
+    ensures whole { (result ≡ Outcome.NoMemory → ⊥)
+        → Stood (at (W.ledger world.old).faults Messages) (at (W.ledger world.new).faults Messages)
+        → Takes (Some []) (at (W.ledger world.new).last Messages)
+        (line_of (map string_bytes words.now) (seen_line line.now) result) }
+    ensures balanced { Balanced Messages (W.ledger world.old) (W.ledger world.new) }
+    ensures rest { W.ledger world.new ≡ only Messages (W.ledger world.old) (W.ledger world.new) }
+{
+    let Ok(text) = message(alloc, words, line, outcome) else {
+        return Outcome::NoMemory;
+    };
+    match say(text.as_str(), world) {
+        Ok(()) => outcome,
+        Err(_) => Outcome::NoMemory,
+    }
+}
+
+/// Prints a text alone.
+fn print_alone<W: World>(text: &str, world: &mut W) -> Outcome
+    ensures printed { result ≡ Outcome.Printed
+        → Takes (Some []) (at (W.ledger world.new).last ConsoleOut) text.now }
+    ensures failed { result ≡ Outcome.ConsoleFailed
+        → Rose (at (W.ledger world.old).faults ConsoleOut)
+        (at (W.ledger world.new).faults ConsoleOut) }
+    ensures which { (result ≡ Outcome.Printed)
+        ⊎ ((result ≡ Outcome.ConsoleFailed) ⊎ (result ≡ Outcome.NoMemory)) }
+    ensures balanced { Balanced ConsoleOut (W.ledger world.old) (W.ledger world.new) }
+    ensures rest { W.ledger world.new ≡ only ConsoleOut (W.ledger world.old) (W.ledger world.new) }
+{
+    match print(text, world) {
+        Ok(()) => Outcome::Printed,
+        Err(PrintFault::Failed) => Outcome::ConsoleFailed,
+        Err(PrintFault::NoMemory) => Outcome::NoMemory,
+    }
+}
+
+/// What the words come to over a world.
+fn answer<W: World, L: Ledger>(
+    alloc: Global,
+    line: &Line<'_>,
+    world: &mut W,
+    steps: &mut Steps<L>,
+) -> Outcome
+    requires { IsLineInRange (seen_line line.now) }
+    ensures cause { Cause (seen_line line.now) (W.ledger world.old) (W.ledger world.new) result }
+    ensures log { at (W.ledger world.old).opened LogOut < at (W.ledger world.new).opened LogOut
+        → IfRecords (seen_line line.now) (W.ledger world.old)
+        (λ r file. IsLogged r file (W.ledger world.new)) }
+    ensures bad { IsBadLine (seen_line line.now) → IsWordFault result }
+    ensures kept { IfRan result (CountsKept (W.ledger world.old) (W.ledger world.new)) }
+    ensures balanced_firmware { Balanced FirmwareRole (W.ledger world.old) (W.ledger world.new) }
+    ensures balanced_console { Balanced ConsoleOut (W.ledger world.old) (W.ledger world.new) }
+    ensures balanced_log { Balanced LogOut (W.ledger world.old) (W.ledger world.new) }
+    ensures balanced_clock { ClocksBalanced (W.ledger world.old) (W.ledger world.new) }
+    ensures rest { W.ledger world.new ≡ only_run (W.ledger world.old) (W.ledger world.new) }
+{
+    match line {
+        Line::Record(words) => run(alloc, words, world, steps),
+        Line::Help => print_alone(HELP, world),
+        Line::Version => print_alone(VERSION, world),
+        Line::BadWord(number) => Outcome::BadWord(*number),
+        Line::WordsMissing => Outcome::WordsMissing,
+    }
+}
+
+/// The same, where nobody asks how many turns were made.
+fn answer_uncounted<W: World, L: Ledger>(
+    alloc: Global,
+    blank: Blank,
+    line: &Line<'_>,
+    world: &mut W,
+) -> Outcome
+    requires name { blank.name ≡ L.name }
+    requires parts { blank.parts ≡ L.parts }
+    requires some { 0 < L.parts }
+    requires range { IsLineInRange (seen_line line.now) }
+    ensures cause { Cause (seen_line line.now) (W.ledger world.old) (W.ledger world.new) result }
+    ensures log { at (W.ledger world.old).opened LogOut < at (W.ledger world.new).opened LogOut
+        → IfRecords (seen_line line.now) (W.ledger world.old)
+        (λ r file. IsLogged r file (W.ledger world.new)) }
+    ensures bad { IsBadLine (seen_line line.now) → IsWordFault result }
+    ensures kept { IfRan result (CountsKept (W.ledger world.old) (W.ledger world.new)) }
+    ensures balanced_firmware { Balanced FirmwareRole (W.ledger world.old) (W.ledger world.new) }
+    ensures balanced_console { Balanced ConsoleOut (W.ledger world.old) (W.ledger world.new) }
+    ensures balanced_log { Balanced LogOut (W.ledger world.old) (W.ledger world.new) }
+    ensures balanced_clock { ClocksBalanced (W.ledger world.old) (W.ledger world.new) }
+    ensures rest { W.ledger world.new ≡ only_run (W.ledger world.old) (W.ledger world.new) }
+{
+    let mut steps: Steps<L> = Steps::open(blank);
+    answer(alloc, line, world, &mut steps)
+}
+
+/// Does what the words ask for, over a world, and says on its messages how it ended.
+///
+/// The words are those after the program's name. A recording opens the firmware's file, the
+/// console, the clock and the log, in this order, and gives each device back. Of several causes the
+/// one that is met first decides.
+pub fn rrvm_main<R: Threads + Wait + Sync + AllocGlobal, W: World>(
+    rt: &R,
+    words: &[String],
+    world: &mut W,
+) -> Status
+    // The status, its cause, and the line on the messages.
+    ensures explained { Explained (map string_bytes words.now) (line_in words.now)
+        (W.ledger world.old) (W.ledger world.new) result.code }
+
+    // The log that was taken, where the firmware's file tells its bytes: a front of the header; or
+    // the header, events that the one-thread machine accepts, and a part of one event.
+    ensures log { at (W.ledger world.old).opened LogOut < at (W.ledger world.new).opened LogOut
+        → IfRecords (line_in words.now) (W.ledger world.old)
+        (λ r file. IsLogged r file (W.ledger world.new)) }
+
+    // Each status where it comes.
+    ensures bad_words { result.code ≡ 1 → IsBadLine (line_in words.now) }
+    ensures bad_words_only { IsBadLine (line_in words.now)
+        → (result.code ≡ 1) ⊎ (result.code ≡ 30) }
+    ensures unread { result.code ≡ 2
+        → Rose (W.ledger world.old).opening_faults (W.ledger world.new).opening_faults
+        ⊎ Rose (at (W.ledger world.old).faults FirmwareRole)
+        (at (W.ledger world.new).faults FirmwareRole) }
+    ensures console_fault { result.code ≡ 4
+        → Rose (at (W.ledger world.old).faults ConsoleOut)
+        (at (W.ledger world.new).faults ConsoleOut) }
+    ensures log_fault { result.code ≡ 5
+        → Rose (at (W.ledger world.old).faults LogOut) (at (W.ledger world.new).faults LogOut) }
+    ensures bad_firmware { result.code ≡ 8 → IfRecords (line_in words.now) (W.ledger world.old)
+        (λ r file. (rule : LoadError) × IsBadFirmware file r.ram_mib rule) }
+    ensures bad_firmware_only { (r : Recording) (file : List ℕ) (rule : LoadError)
+        → line_in words.now ≡ Records r → (W.ledger world.old).names r.bios ≡ Some file
+        → rule ≢ load_error.NoMemory → IsBadFirmware file r.ram_mib rule
+        → (result.code ≡ 8) ⊎ ((result.code ≡ 2) ⊎ (result.code ≡ 30)) }
+    ensures idle { result.code ≡ 12
+        → IsEnded (line_in words.now) (W.ledger world.old) (W.ledger world.new) 1 0 }
+    ensures budget { result.code ≡ 13
+        → IsEnded (line_in words.now) (W.ledger world.old) (W.ledger world.new) 2 0 }
+    ensures guest { result.code ≡ 10 → (code : ℕ) × (code ≢ 0)
+        × IsEnded (line_in words.now) (W.ledger world.old) (W.ledger world.new) 0 code }
+    ensures passed { result.code ≡ 0 → IsPrinted (line_in words.now) (W.ledger world.new)
+        ⊎ IsEnded (line_in words.now) (W.ledger world.old) (W.ledger world.new) 0 0 }
+
+    // A recording completes where nothing fails.
+    ensures completes { (r : Recording) (file : List ℕ) → line_in words.now ≡ Records r
+        → (W.ledger world.old).names r.bios ≡ Some file → IsGood r file
+        → CountsStood (W.ledger world.old) (W.ledger world.new)
+        → HasRun result.code ⊎ (result.code ≡ 30) }
+    ensures unfaulted { (r : Recording) → line_in words.now ≡ Records r → HasRun result.code
+        → CountsKept (W.ledger world.old) (W.ledger world.new) }
+
+    // Each device is given back.
+    ensures balanced { (role : ARole) → Balanced role (W.ledger world.old) (W.ledger world.new) }
+    ensures balanced_clock { ClocksBalanced (W.ledger world.old) (W.ledger world.new) }
+    ensures no_disk { NoDisk (W.ledger world.old) (W.ledger world.new) }
+{
+    let alloc = rt.alloc();
+    let line = read_line(words);
+    let outcome = answer_uncounted::<W, Brand>(alloc, Blank::new(1), &line, world);
+    let told = tell(alloc, words, &line, outcome, world);
+    Status {
+        code: told.status(),
+    }
+}
