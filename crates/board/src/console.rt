@@ -1,6 +1,6 @@
 //! The console: the UART, which asks for room before it takes a byte out.
 
-ghost use Rattle.std.specs.Prelude.{◌≡◌, [], IfOk, OnOk, OnErr};
+ghost use Rattle.std.specs.Prelude.{◌≡◌, [], length, IfOk, OnOk, OnErr};
 ghost use Rattle.uart16550.specs.Line.{reset, level, received};
 ghost use Rattle.uart16550.specs.Map.{read, written};
 
@@ -71,6 +71,13 @@ impl Console {
         ensures rest { self.new ≡ record self.old { out = [] } }
     {
         self.uart.take_out()
+    }
+
+    /// How many bytes of output weren't taken yet.
+    pub fn untaken(&self) -> usize
+        ensures { result ≡ length self.now.out }
+    {
+        self.uart.untaken()
     }
 
     /// A console in the same state. Later changes of one don't show in the other.

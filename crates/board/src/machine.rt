@@ -1,6 +1,6 @@
 //! The machine: its hart, its devices, and what it counts and waits for.
 
-ghost use Rattle.std.specs.Prelude.{◌≡◌, IfOk};
+ghost use Rattle.std.specs.Prelude.{◌≡◌, length, IfOk};
 ghost use Rattle.elf_load.specs.Load.{LiesInRam};
 ghost use Rattle.board.specs.Reset.{reset as reset_of, IsConfig};
 ghost use Rattle.board.specs.Close.{deadline as deadline_of};
@@ -161,6 +161,13 @@ impl Machine {
         ensures rest { self.new ≡ without_out self.old }
     {
         self.devices.uart.take_out()
+    }
+
+    /// How many console bytes weren't taken yet.
+    pub fn untaken(&self) -> usize
+        ensures { result ≡ length self.now.devices.uart.out }
+    {
+        self.devices.uart.untaken()
     }
 
     /// A machine in the same state. Later changes of one don't show in the other.

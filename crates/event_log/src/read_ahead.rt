@@ -63,6 +63,13 @@ impl ReadAhead {
         })
     }
 
+    /// The place in the log of what is read next.
+    pub fn place(&self) -> u64
+        ensures { result ≡ self.now.place }
+    {
+        self.place
+    }
+
     /// The header, or the first fault. It is read once, before all events.
     #[tactic(auto, using(crate::proofs::Flow::heads))]
     pub fn header<S: Source>(&mut self, source: &mut S) -> Result<Header, StreamError>

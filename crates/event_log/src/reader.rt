@@ -60,6 +60,13 @@ impl<S: Source> LogReader<S> {
         LogReader { source, unread }
     }
 
+    /// The place in the log of what is read next.
+    pub fn place(&self) -> u64
+        ensures { result ≡ self.now.unread.place }
+    {
+        self.unread.place()
+    }
+
     /// The header, or the first fault. It is read once, before all events.
     pub fn header(&mut self) -> Result<Header, StreamError>
         requires { self.old.unread.place ≡ 0 }

@@ -294,6 +294,13 @@ impl Uart {
         std::mem::replace(&mut self.out, Vec::new(alloc))
     }
 
+    /// How many bytes of output weren't taken yet.
+    pub fn untaken(&self) -> usize
+        ensures { result ≡ length self.now.line.out }
+    {
+        self.out.len()
+    }
+
     /// How many bytes were written out, taken or not.
     pub fn total_out(&self) -> u64
         ensures { result ≡ self.now.line.total_out }
