@@ -1,0 +1,5 @@
+pub mod Feeding
+pub mod Advancing
+pub mod Following
+pub mod Verdicts
+pub mod EndKinds
