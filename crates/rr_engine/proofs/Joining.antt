@@ -3,7 +3,7 @@ use Rattle.std.proofs.Common.{◌≡◌, ℕ, Bool, true, false, List, [], ◌�
 use Rattle.std.specs.Prelude.{Some, None, Result, Ok, Err}
 use Rattle.std.specs.declared.option.Option.{Option}
 use Rattle.std.specs.List.{AllByRecursion}
-use Rattle.outside.specs.Causes.{Rose}
+use Rattle.outside.specs.Causes.{Rose, Stood}
 use Rattle.outside.specs.Told.{Takes, TakesFront}
 use Rattle.outside.proofs.ToldLemmas.{Takes-refl, Takes-trans, TakesFront-after}
 use Rattle.event_log.specs.declared.event.Event.{Event}
@@ -16,7 +16,7 @@ use Rattle.board.proofs.TakenLaws.{run-with}
 use Rattle.rr_engine.specs.declared.parts.Break.{Break}
 use Rattle.rr_engine.specs.declared.parts.Break.TheVariants.{ConsoleWrite, LogWrite, NoMemory}
 use Rattle.rr_engine.specs.Stand.{Stand}
-use Rattle.rr_engine.specs.Recording.{clock_value, clock_values, Took, Appended, Logged, Gave, Counted, Recorded, Broke, Goes}
+use Rattle.rr_engine.specs.Recording.{clock_value, clock_values, Took, Appended, Logged, Gave, Counted, Recorded, IsLogged, Broke, Goes}
 
 -- ---- runs
 
@@ -154,8 +154,40 @@ recorded-then w p q r a b =
           (gave-then w p.gave q.gave r.gave (clock_values a.events) (clock_values b.events) a.clock b.clock);
     }
 
+-- what was recorded, and then all of the rest
+pub logged-after : (p q r : Stand) → Recorded true p q → IsLogged q r → IsLogged p r
+logged-after p q r a b =
+    let first : run p.machine a.events ≡ Some (with_out a.bytes q.machine) =
+    a.runs ∙ ap (λ z. some_state (with_out a.bytes z)) (a.stands refl) in
+    record {
+      events = a.events ++ b.events;
+      bytes = a.bytes ++ b.bytes;
+      last = b.last;
+      are = all-append a.events b.events a.are b.are;
+      runs = run-append a.events b.events p.machine (with_out a.bytes q.machine) (Some (with_out (a.bytes ++ b.bytes) b.last)) first
+          (run-behind a.bytes b.bytes b.events q.machine b.last b.runs);
+      stopped = b.stopped;
+      log = subst (λ (z : List ℕ). Takes p.log.taken r.log.taken (p.log.unsent.held ++ z))
+          (sym (texts-append a.events b.events))
+          (subst (Takes p.log.taken r.log.taken)
+          (regroup a.log.written q.log.unsent.held p.log.unsent.held (texts a.events)
+          (texts b.events) a.log.whole)
+          (Takes-trans p.log.taken q.log.taken r.log.taken a.log.written
+          (q.log.unsent.held ++ texts b.events) a.log.taken b.log));
+      console = TakesFront-after p.console q.console r.console a.bytes b.bytes a.console b.console;
+      clock = subst (Gave false p.gave r.gave) (sym (values-append a.events b.events))
+          (gave-then false p.gave q.gave r.gave (clock_values a.events) (clock_values b.events)
+          a.clock b.clock);
+    }
+
 pub broke-then : (p q r : Stand) (b : Break) → Recorded true p q → Broke q r b → Broke p r b
-broke-then p q r ConsoleWrite a h = let P : ℕ → Type 0 = λ n. Rose n r.console_faults in subst P a.console_faults h
+broke-then p q r ConsoleWrite a h =
+    let P : ℕ → Type 0 = λ n. Rose n r.console_faults in
+    let Q : ℕ → Type 0 = λ n. Stood n r.log.faults in (
+      subst P a.console_faults h.0,
+      λ stood. logged-after p q r a
+          (h.1 (subst Q (sym a.log_faults) stood)),
+    )
 broke-then p q r LogWrite a h = let P : ℕ → Type 0 = λ n. Rose n r.log.faults in subst P a.log_faults h
 broke-then p q r NoMemory a h = tt
 

@@ -8,3 +8,5 @@ pub mod Running
 pub mod Endings
 pub mod Rounding
 pub mod Wholes
+pub mod Following
+pub mod Closing

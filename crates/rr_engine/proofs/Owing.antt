@@ -94,12 +94,29 @@ window-opens due_is.Idle true g h going e = subst (λ (z : State). takes_input z
 window-opens due_is.Slice false g h going e = subst (λ (z : State). takes_input z.control ≡ true) (some_is _ h e) (rw going refl)
 window-opens d idle g h going e = absurd cc
 
-level-opens : (o : Option State) (h : State) → with_levels o ≡ Some h → ((k : State) → o ≡ Some k → takes_input k.control ≡ true) → takes_input h.control ≡ true
-level-opens None h e all = absurd cc
-level-opens (Some k) h e all = subst (λ (z : State). takes_input z.control ≡ true) (some_is _ h e) (all k refl)
+level-keeps : (P : Control → Type 0) (o : Option State) (h : State) → with_levels o ≡ Some h
+    → ((k : State) → o ≡ Some k → P k.control) → P h.control
+level-keeps P None h e all = absurd cc
+level-keeps P (Some k) h e all = subst (λ (z : State). P z.control) (some_is _ h e) (all k refl)
 
 pub checkpoint-opens : (g h : State) (idle : Bool) → g.control.ended ≡ None → step g (event.Checkpoint idle) ≡ Some h → takes_input h.control ≡ true
 unfolding step accept taken
 checkpoint-opens g h idle going s =
-    level-opens (takes (due g) (event.Checkpoint idle) (close g)) h s
+    level-keeps (λ c. takes_input c ≡ true) (takes (due g) (event.Checkpoint idle) (close g)) h s
     (λ k e. window-opens (due g) idle (close g) k ((close-keeps g).ended ∙ going) e)
+
+window-ends : (g k : State) (b : Bool) → (if b then some_state (ended g 3 0) else None) ≡ Some k
+    → k.control.ended ≡ Some (record { reason = 3; code = 0 })
+window-ends g k true e =
+    subst (λ (z : State). z.control.ended ≡ Some (record { reason = 3; code = 0 }))
+    (some_is (ended g 3 0) k e) refl
+window-ends g k false e = absurd cc
+
+-- END 3 ends the run
+pub stop-ends : (g h : State) → step g (event.End 3 0) ≡ Some h
+    → h.control.ended ≡ Some (record { reason = 3; code = 0 })
+unfolding step accept taken
+stop-ends g h s =
+    level-keeps (λ c. c.ended ≡ Some (record { reason = 3; code = 0 }))
+    (taken g (event.End 3 0)) h s
+    (λ k e. window-ends g k (takes_input g.control) e)

@@ -1,8 +1,8 @@
 -- A whole recording: its header, its rounds, and the rest of its log.
-use Rattle.std.proofs.Common.{◌≡◌, ℕ, true, false, List, [], ◌++◌, ◌≤◌, refl, sym, ap, ◌∙◌, subst, append-nil}
+use Rattle.std.proofs.Common.{◌≡◌, ℕ, true, false, List, [], ◌++◌, ◌≤◌, refl, sym, ap, ◌∙◌, subst, inl, inr, append-nil}
 use Rattle.std.specs.Prelude.{Some, None, Ok, Err}
 use Rattle.std.specs.declared.option.Option.{Option}
-use Rattle.outside.specs.Causes.{Rose}
+use Rattle.outside.specs.Causes.{Rose, Stood}
 use Rattle.outside.specs.Told.{Takes, TakesFront}
 use Rattle.outside.proofs.ToldLemmas.{Takes-trans, TakesFront-none, TakesFront-after, TakesFront-longer}
 use Rattle.event_log.specs.Spelling.{texts}
@@ -14,12 +14,13 @@ use Rattle.board.specs.Reset.{reset}
 use Rattle.elf_load.specs.declared.pieces.Loaded.{Loaded}
 use Rattle.rr_engine.specs.declared.parts.RunEnd.{RunEnd}
 use Rattle.board.specs.Taken.{with_out}
+use Rattle.board.proofs.TakenLaws.{due-with}
 use Rattle.rr_engine.specs.declared.parts.Break.{Break}
 use Rattle.rr_engine.specs.declared.parts.Break.TheVariants.{ConsoleWrite, LogWrite, NoMemory}
 use Rattle.rr_engine.specs.declared.parts.RunEnd.TheVariants as ends
 use Rattle.rr_engine.specs.Stand.{Stand, Outputs}
-use Rattle.rr_engine.specs.Recording.{clock_values, Gave, Recorded, Broke, Goes, Sent, HasOwnEnding, EndsByItself, end_of}
-use Rattle.rr_engine.specs.Runs.{Front, Records}
+use Rattle.rr_engine.specs.Recording.{clock_values, Gave, IsStopped, Recorded, IsLogged, Broke, Goes, Sent, HasOwnEnding, EndsByItself, end_of}
+use Rattle.rr_engine.specs.Runs.{Front, ToStop, Records}
 use Rattle.rr_engine.proofs.Joining.{run-none, gave-none, recorded-then, broke-then}
 use Rattle.rr_engine.proofs.Stopping.{flushed-stopped, sent-flushed}
 
@@ -55,6 +56,11 @@ no-header p q head NoMemory s =
     (ap (λ (z : Stand). z.console) s) (ap (λ (z : Stand). z.gave) s)
 no-header p q head ConsoleWrite s = absurd s
 
+-- bytes that were taken play no part in where the run was stopped
+stopped-with : (front : List ℕ) (g : State) → IsStopped g → IsStopped (with_out front g)
+stopped-with front g (inl ended) = inl ended
+stopped-with front g (inr owed) = inr (owed.0, owed.1, owed.2, due-with front g ∙ owed.3)
+
 -- the header was written, and the recording broke off
 front-after : (p : Stand) (w : Writer) (r : Stand) (head : List ℕ) → Takes p.log.taken w.taken head → w.unsent.held ≡ []
     → Recorded false (record p { log = w }) r → Front p.machine head (outputs p) (outputs r)
@@ -69,9 +75,30 @@ front-after p w r head taken none a = record {
   clock_gave = a.clock;
 }
 
+-- the header was written, and all of the rest, up to where the run was stopped
+stopped-after : (p : Stand) (w : Writer) (r : Stand) (head : List ℕ)
+    → Takes p.log.taken w.taken head → w.unsent.held ≡ []
+    → IsLogged (record p { log = w }) r → ToStop p.machine head (outputs p) (outputs r)
+stopped-after p w r head taken none a = record {
+  events = a.events;
+  last = with_out a.bytes a.last;
+  are = a.are;
+  runs = a.runs;
+  stopped = stopped-with a.bytes a.last a.stopped;
+  log_taken = Takes-trans p.log.taken w.taken r.log.taken head (texts a.events) taken
+      (subst (λ (z : List ℕ). Takes w.taken r.log.taken (z ++ texts a.events)) none a.log);
+  console_taken = TakesFront-longer p.console r.console a.bytes a.last.devices.uart.out a.console;
+  clock_gave = a.clock;
+}
+
 broken : (p : Stand) (w : Writer) (r : Stand) (head : List ℕ) (b : Break) → Takes p.log.taken w.taken head → w.unsent.held ≡ []
     → w.faults ≡ p.log.faults → Goes (record p { log = w }) r (Err b) → Records p.machine head (outputs p) (outputs r) (end_of b)
-broken p w r head ConsoleWrite taken none faults h = (front-after p w r head taken none h.0, h.1)
+broken p w r head ConsoleWrite taken none faults h = (
+  front-after p w r head taken none h.0,
+  h.1.0,
+  λ stood. stopped-after p w r head taken none
+      (h.1.1 (subst (λ (z : ℕ). Stood z r.log.faults) (sym faults) stood)),
+)
 broken p w r head LogWrite taken none faults h =
     (front-after p w r head taken none h.0, subst (λ (z : ℕ). Rose z r.log.faults) faults h.1)
 broken p w r head NoMemory taken none faults h = front-after p w r head taken none h.0

@@ -2,7 +2,7 @@
 use Rattle.std.specs.Prelude.{◌≡◌, ℕ, Bool, true, false, List, [], ◌∷◌, ◌++◌, ◌⊎◌, ◌≤◌, Some, None, Result, Ok, Err}
 use Rattle.std.specs.declared.option.Option.{Option}
 use Rattle.std.specs.List.{AllByRecursion}
-use Rattle.outside.specs.Causes.{Rose}
+use Rattle.outside.specs.Causes.{Rose, Stood}
 use Rattle.outside.specs.Told.{Takes, TakesFront}
 use Rattle.event_log.specs.declared.event.Event.{Event}
 use Rattle.event_log.specs.declared.event.Event.TheVariants as event
@@ -11,6 +11,8 @@ use Rattle.event_log.specs.Writing.{Writer}
 use Rattle.board.specs.State.{State}
 use Rattle.board.specs.Runs.{step, run}
 use Rattle.board.specs.Taken.{with_out, without_out}
+use Rattle.board.specs.Due.{due}
+use Rattle.board.specs.declared.due.Due.TheVariants as due_is
 use Rattle.board.specs.declared.control.Ending.{Ending}
 use Rattle.event_log.specs.declared.stream_error.StreamError.{StreamError}
 use Rattle.event_log.specs.declared.stream_error.StreamError.TheVariants as stream
@@ -74,9 +76,29 @@ pub record Recorded (whole : Bool) (p q : Stand) : Type 0 where
   pub console_faults : Counted whole p.console_faults q.console_faults
   pub clock : Gave whole p.gave q.gave (clock_values events)
 
+-- END 3 ended the run, or an END of the machine's own was due
+abbrev pub IsStopped : State → Type 0
+IsStopped g =
+    (g.control.ended ≡ Some (record { reason = 3; code = 0 }))
+    ⊎ ((g.control.ended ≡ None) × (reason : ℕ) × (code : ℕ) × (due g ≡ due_is.End reason code))
+
+-- The recording was stopped after these events, and the log has them all. The console has a front
+-- of the bytes.
+pub record IsLogged (p q : Stand) : Type 0 where
+  pub events : List Event
+  pub bytes : List ℕ
+  pub last : State
+  pub are : AllByRecursion IsEvent events
+  pub runs : run p.machine events ≡ Some (with_out bytes last)
+  pub stopped : IsStopped last
+  pub log : Takes p.log.taken q.log.taken (p.log.unsent.held ++ texts events)
+  pub console : TakesFront p.console q.console bytes
+  pub clock : Gave false p.gave q.gave (clock_values events)
+
 -- why it broke off
 abbrev pub Broke : Stand → Stand → Break → Type 0
-Broke p q ConsoleWrite = Rose p.console_faults q.console_faults
+Broke p q ConsoleWrite =
+    Rose p.console_faults q.console_faults × (Stood p.log.faults q.log.faults → IsLogged p q)
 Broke p q LogWrite = Rose p.log.faults q.log.faults
 Broke p q NoMemory = Unit {0}
 
@@ -129,6 +151,21 @@ pub record Stopped (p q : Stand) : Type 0 where
   pub silent : recorded.bytes ≡ []
   pub console : q.console ≡ p.console
   pub console_faults : q.console_faults ≡ p.console_faults
+
+-- a break, or want of memory, where that kept the rest of the log from its sink
+abbrev pub or_memory : Break → Result (Unit {0}) Break → Break
+or_memory broke (Err NoMemory) = NoMemory
+or_memory broke (Err ConsoleWrite) = broke
+or_memory broke (Err LogWrite) = broke
+or_memory broke (Ok done) = broke
+
+-- The recording was stopped. What was recorded is in the log, or its sink failed, or memory was
+-- refused.
+abbrev pub Stops : Stand → Stand → Result (Unit {0}) Break → Type 0
+Stops p q (Ok done) = Stopped p q × IsLogged p q
+Stops p q (Err LogWrite) = Stopped p q × Rose p.log.faults q.log.faults
+Stops p q (Err NoMemory) = Stopped p q
+Stops p q (Err ConsoleWrite) = ⊥
 
 -- an event that is accepted without a turn
 abbrev pub IsNoTurn : Event → Type 0

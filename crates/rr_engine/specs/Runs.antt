@@ -2,7 +2,7 @@
 use Rattle.std.specs.Prelude.{◌≡◌, ◌≢◌, ℕ, ◌≤◌, ◌⊎◌, false, List, [], ◌++◌, Some, IfSome, Result, Ok, Err}
 use Rattle.std.specs.declared.option.Option.{Option}
 use Rattle.std.specs.List.{AllByRecursion}
-use Rattle.outside.specs.Causes.{Rose}
+use Rattle.outside.specs.Causes.{Rose, Stood}
 use Rattle.outside.specs.Told.{Takes, TakesFront}
 use Rattle.elf_load.specs.declared.pieces.Loaded.{Loaded}
 use Rattle.event_log.specs.declared.header.Header.{Header}
@@ -17,7 +17,7 @@ use Rattle.rr_engine.specs.declared.parts.Break.{Break}
 use Rattle.rr_engine.specs.declared.parts.RunEnd.{RunEnd}
 use Rattle.rr_engine.specs.declared.parts.RunEnd.TheVariants.{End, ConsoleWrite, LogWrite, NoMemory}
 use Rattle.rr_engine.specs.Stand.{Outputs}
-use Rattle.rr_engine.specs.Recording.{clock_values, Gave, end_of}
+use Rattle.rr_engine.specs.Recording.{clock_values, Gave, IsStopped, end_of}
 
 -- what a header says of the machine
 abbrev pub config_of : Header → Config
@@ -58,6 +58,19 @@ pub record RecordedFront (start : State) (head : List ℕ)
   pub console_taken : TakesFront console console' last.devices.uart.out
   pub clock_gave : Gave false gave gave' (clock_values events)
 
+-- The log has all of the events, and the run was stopped after them: END 3 is the last, or an END
+-- of the machine's own was due, and the log has none. The console has a front of the bytes.
+pub record RecordedToStop (start : State) (head : List ℕ)
+    (log log' console console' gave gave' : Option (List ℕ)) : Type 0 where
+  pub events : List Event
+  pub last : State
+  pub are : AllByRecursion IsEvent events
+  pub runs : run start events ≡ Some last
+  pub stopped : IsStopped last
+  pub log_taken : Takes log log' (head ++ texts events)
+  pub console_taken : TakesFront console console' last.devices.uart.out
+  pub clock_gave : Gave false gave gave' (clock_values events)
+
 abbrev pub Whole : State → List ℕ → Outputs → Outputs → ℕ → ℕ → Type 0
 Whole start head old new reason code =
     RecordedWhole start head old.log new.log old.console new.console old.gave new.gave reason code
@@ -66,17 +79,23 @@ abbrev pub Front : State → List ℕ → Outputs → Outputs → Type 0
 Front start head old new =
     RecordedFront start head old.log new.log old.console new.console old.gave new.gave
 
+abbrev pub ToStop : State → List ℕ → Outputs → Outputs → Type 0
+ToStop start head old new =
+    RecordedToStop start head old.log new.log old.console new.console old.gave new.gave
+
 -- an end of the machine's own: by the guest, or with code 0 for want of a wake or at the budget
 abbrev pub IsOwnReason : ℕ → ℕ → Type 0
 IsOwnReason reason code = (reason ≤ 2) × (1 ≤ reason → code ≡ 0)
 
--- what a recording answers, and what it leaves
+-- What a recording answers, and what it leaves. Where the console's sink failed and the log's count
+-- of faults tells that the log's didn't, the log has all, up to where the run was stopped.
 abbrev pub Records : State → List ℕ → Outputs → Outputs → RunEnd → Type 0
 Records start head old new (End reason code) =
     Whole start head old new reason code × IsOwnReason reason code
     × (new.log_faults ≡ old.log_faults) × (new.console_faults ≡ old.console_faults)
 Records start head old new ConsoleWrite =
     Front start head old new × Rose old.console_faults new.console_faults
+    × (Stood old.log_faults new.log_faults → ToStop start head old new)
 Records start head old new LogWrite = Front start head old new × Rose old.log_faults new.log_faults
 Records start head old new NoMemory = Front start head old new
 

@@ -6,7 +6,7 @@ ghost use Rattle.board.specs.Answers.{Counts, IsDue};
 ghost use Rattle.board.specs.Due.{due};
 ghost use Rattle.board.specs.Taken.{without_out};
 ghost use Rattle.rr_engine.specs.Stand.{stand};
-ghost use Rattle.rr_engine.specs.Recording.{Goes, EndsByItself, Stopped};
+ghost use Rattle.rr_engine.specs.Recording.{Goes, EndsByItself, Stops};
 ghost use Rattle.rr_engine.specs.Work.{work};
 
 use crate::parts::{Break, RecordParts};
@@ -56,27 +56,26 @@ impl Recorder {
     {
         match self.write_out(alloc, parts) {
             Ok(()) => Ok(()),
-            Err(broke) => {
-                self.stop(alloc, parts);
-                Err(broke)
-            }
+            Err(broke) => Err(broke.or_memory(self.stop(alloc, parts))),
         }
     }
 
     /// END 3 in an open window, and what has gathered of the log. Where the log's sink fails too,
     /// or memory is refused, a front of that is written.
-    fn stop<K: Sink, C: HostClock>(&mut self, alloc: Global, parts: &mut RecordParts<K, C>)
+    fn stop<K: Sink, C: HostClock>(
+        &mut self,
+        alloc: Global,
+        parts: &mut RecordParts<K, C>,
+    ) -> Result<(), Break>
         requires works { self.old.log.failed ≡ false }
         requires open { takes_input self.old.machine.control ≡ true }
-        ensures { Stopped (stand self.old.machine self.old.log parts.old)
-            (stand self.new.machine self.new.log parts.new) }
+        ensures { Stops (stand self.old.machine self.old.log parts.old)
+            (stand self.new.machine self.new.log parts.new) result }
     {
         let stopped = Event::End { reason: 3, code: 0 };
         match self.enter(alloc, stopped, parts) {
-            Ok(()) => {
-                let _ = self.finish(parts);
-            }
-            Err(_) => {}
+            Ok(()) => self.finish(parts),
+            Err(broke) => Err(broke),
         }
     }
 
@@ -102,10 +101,7 @@ impl Recorder {
     {
         match self.write_out(alloc, parts) {
             Ok(()) => self.enter(alloc, Event::End { reason, code }, parts),
-            Err(broke) => {
-                let _ = self.finish(parts);
-                Err(broke)
-            }
+            Err(broke) => Err(broke.or_memory(self.finish(parts))),
         }
     }
 }

@@ -1,11 +1,14 @@
-//! Recording: a machine runs, and each of its events goes to a log.
+//! Recording: a machine runs, and each of its events goes to a log. Replay: it takes them again.
 #![tactic(auto)]
 
 mod checkpoint;
 mod parts;
 mod recorder;
 mod recording;
+mod replayer;
+mod replaying;
 mod rounds;
 
 pub use parts::{RecordParts, RunEnd};
 pub use recording::record_one;
+pub use replaying::{ReplayEnd, replay_one};

@@ -65,7 +65,7 @@ pub(crate) enum Break {
 }
 
 impl Break {
-    ghost use Rattle.rr_engine.specs.Recording.{end_of};
+    ghost use Rattle.rr_engine.specs.Recording.{end_of, or_memory};
 
     /// How the recording ended by it.
     pub fn end(self) -> RunEnd
@@ -75,6 +75,16 @@ impl Break {
             Break::ConsoleWrite => RunEnd::ConsoleWrite,
             Break::LogWrite => RunEnd::LogWrite,
             Break::NoMemory => RunEnd::NoMemory,
+        }
+    }
+
+    /// This, or want of memory, where that kept the rest of the log from its sink.
+    pub fn or_memory(self, rest: Result<(), Break>) -> Break
+        ensures { result ≡ or_memory self rest }
+    {
+        match rest {
+            Err(Break::NoMemory) => Break::NoMemory,
+            _ => self,
         }
     }
 }

@@ -18,7 +18,7 @@ use std::alloc::Global;
 use std::sync::ledger::Ledger;
 
 /// What a header says of the machine.
-fn config(header: &Header) -> Config
+pub(crate) fn config(header: &Header) -> Config
     ensures { result ≡ config_of header.now }
 {
     Config {
@@ -35,7 +35,8 @@ fn config(header: &Header) -> Config
 /// The header is one write. What is recorded goes out whenever 65,536 bytes have gathered, and at
 /// the end. The console's bytes are written at each checkpoint and before an END of the machine's
 /// own. The first device that fails ends the recording: where it is the console's at a checkpoint,
-/// by END 3, which the log then has.
+/// by END 3, which the log then has, unless its sink fails too. Where memory is refused for that
+/// END, the answer is want of memory.
 pub fn record_one<K: Sink, C: HostClock, L: Ledger>(
     alloc: Global,
     header: &Header,

@@ -1,5 +1,5 @@
 use Rattle.rr_engine.specs.Stand.{stand}
-use Rattle.rr_engine.proofs.Stopping.{spills-sent}
+use Rattle.rr_engine.proofs.Stopping.{conclusion-spills}
 use Rattle.rr_engine.proofs.Rounding.{conclude-owed, conclude-goes, conclude-falls, conclude-ends}
 use Rattle.rr_engine.proofs.recorder.Recorder.conclude.Goals as goal
 
@@ -30,5 +30,7 @@ returns-in-Ok-clause-own g c =
 
 pub returns-in-Err-clause-goes : goal.returns-in-Err-clause-goes
 returns-in-Err-clause-goes g c =
-    spills-sent (stand c.args.self.now.machine c.args.self.now.log c.args.parts.now)
-    (stand c.write_out.new.self.machine c.write_out.new.self.log c.write_out.new.parts) _ _ _ c.in-Err.ensures.shows c.finish.ensures
+    conclusion-spills (stand c.args.self.now.machine c.args.self.now.log c.args.parts.now)
+    (stand c.write_out.new.self.machine c.write_out.new.self.log c.write_out.new.parts) _ _ _ _
+    c.args.reason c.args.code c.or_memory.ensures
+    c.in-Err.ensures.shows c.requires.going c.requires.due c.finish.ensures

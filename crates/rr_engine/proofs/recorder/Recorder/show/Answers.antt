@@ -10,4 +10,5 @@ returns-in-Ok-clause-goes g c =
 pub returns-in-Err-clause-goes : goal.returns-in-Err-clause-goes
 returns-in-Err-clause-goes g c =
     spills (stand c.args.self.now.machine c.args.self.now.log c.args.parts.now)
-    (stand c.write_out.new.self.machine c.write_out.new.self.log c.write_out.new.parts) _ _ c.in-Err.ensures.shows c.stop.ensures
+    (stand c.write_out.new.self.machine c.write_out.new.self.log c.write_out.new.parts) _ _ _ _
+    c.or_memory.ensures c.in-Err.ensures.shows c.stop.ensures
