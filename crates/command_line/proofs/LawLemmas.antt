@@ -3,10 +3,11 @@ use Rattle.std.proofs.Common.{◌≡◌, ℕ, ◌+◌, suc, ◌<◌, Bool, true,
 use Rattle.std.specs.Prelude.{⊤}
 use Rattle.std.specs.Str.{bytes_eq}
 use Rattle.std.proofs.lemmas.Slice.Eq.{bytes_eq-Decides}
-use Rattle.command_line.specs.Icount.{Icount}
-use Rattle.command_line.specs.Words.{Given, given_none, Key, with_value, key_of, Recording, Reading, Records, Help, Version, Bad, Early, Step, reading, follow, pair_step, value_step, at_end, recording, alone, reading_of, IsBadLine}
-use Rattle.command_line.specs.Grammar.{Choice, key_word, line_words, Adds, Asks, IsLine, GoesOn, IsFirstBad}
-use Rattle.command_line.proofs.GrammarLemmas.{Named, none_given, key_of-word, Continues, continues-nil, continues-pair, continues-key, continues-back, begins, no_key, no_value, read_cases}
+use Rattle.command_line.specs.Icount.{Icount, RecordInto, ReplayFrom}
+use Rattle.command_line.specs.Words.{Given, given_none, Key, with_option, key_of, Reading, Records, Replays, Help, Version, Bad, Early, Step, reading, follow, pair_step, value_step, at_end, request, alone, reading_of, IsBadLine}
+use Rattle.command_line.specs.Grammar.{Choice, key_word, line_words, Asks, IsLine, GoesOn, IsFirstBad}
+use Rattle.command_line.proofs.StepLemmas.{Together, Steps, steps_from_adds, adds_from_steps}
+use Rattle.command_line.proofs.GrammarLemmas.{Named, IsRequest, none_given, key_of-word, Continues, continues-nil, continues-pair, continues-key, continues-back, begins, no_key, no_value, read_cases}
 
 -- The first word.
 
@@ -30,9 +31,31 @@ no_key-help key p = let h : None ≡ Some key = ap (key_of given_none) p ∙ key
 no_key-version : (key : Key) → codes "--version" ≡ key_word key → ⊥
 no_key-version key p = let h : None ≡ Some key = ap (key_of given_none) p ∙ key_of-word given_none key (none_given key) in cc
 
+-- Lines of options.
+
+-- the words are options that are read as this, from g on
+record Asked (g : Given) (words : List (List ℕ)) (meaning : Reading) : Type 0 where
+  pub choices : List Choice
+  pub last : Given
+  pub spelled : line_words choices ≡ words
+  pub steps : Steps g choices last
+  pub asks : at_end last ≡ meaning
+
+asked_from_asks : (words : List (List ℕ)) (m : Reading) → Asks given_none words m → Asked given_none words m
+asked_from_asks words m h = record { choices = h.choices; last = h.last; spelled = h.spelled; steps = (steps_from_adds h.choices given_none h.last h.adds h.fits).0; asks = h.asks }
+
+asks_from_asked : (words : List (List ℕ)) (m : Reading) → Asked given_none words m → Asks given_none words m
+asks_from_asked words m h =
+    let adds = adds_from_steps h.choices given_none h.last h.steps refl in
+    record { choices = h.choices; last = h.last; spelled = h.spelled; adds = adds.0; fits = adds.1; asks = h.asks }
+
+asked_key : (w v : List ℕ) (rest : List (List ℕ)) (m : Reading) → Asked given_none (w ∷ v ∷ rest) m → (key : Key) × (w ≡ key_word key)
+asked_key w v rest m h = let b = begins given_none w (v ∷ rest) h.choices h.last h.spelled h.steps in (b.0, b.1.0)
+
 -- an allowed line of two words and more begins with a key
 line_key : (w v : List ℕ) (rest : List (List ℕ)) (m : Reading) → IsLine (w ∷ v ∷ rest) m → (key : Key) × (w ≡ key_word key)
-line_key w v rest (Records r) h = let b = begins given_none w (v ∷ rest) h.choices h.last h.spelled h.adds in (b.0, b.1.0)
+line_key w v rest (Records r) h = asked_key w v rest (Records r) (asked_from_asks (w ∷ v ∷ rest) (Records r) h)
+line_key w v rest (Replays r) h = asked_key w v rest (Replays r) (asked_from_asks (w ∷ v ∷ rest) (Replays r) h)
 line_key w v rest Help h = absurd (cc)
 line_key w v rest Version h = absurd (cc)
 line_key w v rest (Bad k) h = absurd h
@@ -41,36 +64,41 @@ line_key w v rest Early h = absurd h
 -- Lines that are read.
 
 abbrev ReadsAs : Given → ℕ → List (List ℕ) → Reading → Type 0
-ReadsAs g k words (Records r) = Asks g words r
+ReadsAs g k words (Records r) = Asked g words (Records r)
+ReadsAs g k words (Replays r) = Asked g words (Replays r)
 ReadsAs g k words Help = ⊥
 ReadsAs g k words Version = ⊥
 ReadsAs g k words (Bad n) = ⊤
 ReadsAs g k words Early = ⊤
 
-ended_reads : (g : Given) (k : ℕ) (i : Option Icount) (b : Option (List ℕ)) → ReadsAs (record g { icount = i; bios = b }) k [] (recording g i b)
-ended_reads g k (Some i) (Some b) = record { choices = []; last = _; spelled = refl; adds = refl; asks = refl }
-ended_reads g k (Some i) None = tt
+ended_reads : (g : Given) (k : ℕ) (i : Option Icount) (b : Option (List ℕ)) → ReadsAs (record g { icount = i; bios = b }) k [] (request g i b)
+ended_reads g k (Some (RecordInto n l)) (Some b) = record { choices = []; last = _; spelled = refl; steps = refl; asks = refl }
+ended_reads g k (Some (ReplayFrom n l)) (Some b) = record { choices = []; last = _; spelled = refl; steps = refl; asks = refl }
+ended_reads g k (Some (RecordInto n l)) None = tt
+ended_reads g k (Some (ReplayFrom n l)) None = tt
 ended_reads g k None (Some b) = tt
 ended_reads g k None None = tt
 
-asks-pair : (g m : Given) (w v : List ℕ) (words : List (List ℕ)) (key : Key) (r : Recording) → Named g w key → with_value g key v ≡ Some m → Asks m words r → Asks g (w ∷ v ∷ words) r
-asks-pair g m w v words key r n e h = record {
+asked-pair : (g m : Given) (w v : List ℕ) (words : List (List ℕ)) (key : Key) (r : Reading) → Named g w key → with_option g key v ≡ Some m → Asked m words r → Asked g (w ∷ v ∷ words) r
+asked-pair g m w v words key r n e h = record {
   choices = record { key = key; value = v } ∷ h.choices;
   last = h.last;
   spelled = ap (λ l. key_word key ∷ v ∷ l) h.spelled ∙ ap (λ x. x ∷ v ∷ words) (sym n.0);
-  adds = (m, n.1, e, h.adds);
+  steps = (m, n.1, e, h.steps);
   asks = h.asks;
 }
 
-more_reads : (g m : Given) (k : ℕ) (w v : List ℕ) (words : List (List ℕ)) (key : Key) (r : Reading) → Named g w key → with_value g key v ≡ Some m → ReadsAs m (k + 2) words r → ReadsAs g k (w ∷ v ∷ words) r
-more_reads g m k w v words key (Records r) n e h = asks-pair g m w v words key r n e h
+more_reads : (g m : Given) (k : ℕ) (w v : List ℕ) (words : List (List ℕ)) (key : Key) (r : Reading) → Named g w key → with_option g key v ≡ Some m → ReadsAs m (k + 2) words r → ReadsAs g k (w ∷ v ∷ words) r
+more_reads g m k w v words key (Records r) n e h = asked-pair g m w v words key (Records r) n e h
+more_reads g m k w v words key (Replays r) n e h = asked-pair g m w v words key (Replays r) n e h
 more_reads g m k w v words key Help n e h = h
 more_reads g m k w v words key Version n e h = h
 more_reads g m k w v words key (Bad j) n e h = tt
 more_reads g m k w v words key Early n e h = tt
 
 plain_sound : (words : List (List ℕ)) (r : Reading) → ReadsAs given_none 0 words r → IsBadLine r ⊎ IsLine words r
-plain_sound words (Records r) h = inr h
+plain_sound words (Records r) h = inr (asks_from_asked words (Records r) h)
+plain_sound words (Replays r) h = inr (asks_from_asked words (Replays r) h)
 plain_sound words Help h = absurd h
 plain_sound words Version h = absurd h
 plain_sound words (Bad k) h = inl tt
@@ -84,26 +112,34 @@ version_sound : (w : List ℕ) (ws : List (List ℕ)) → w ≡ codes "--version
 version_sound w [] p = inr (ap (λ x. x ∷ []) p)
 version_sound w (v ∷ vs) p = inl tt
 
+pub options_sound : (words : List (List ℕ)) → IsBadLine (reading given_none 0 words) ⊎ IsLine words (reading given_none 0 words)
+options_sound words =
+    plain_sound words (reading given_none 0 words)
+    (read_cases ReadsAs (λ g k t. ended_reads g k g.icount g.bios) (λ g k v vs t p. tt) (λ g k v key t n. tt) (λ g k v u vs key t n p. tt) more_reads words given_none 0 refl)
+
 pub line_sound : (words : List (List ℕ)) → IsBadLine (reading_of words) ⊎ IsLine words (reading_of words)
 line_sound [] = inl tt
-line_sound (w ∷ ws) = first_word w ws (λ r. IsBadLine r ⊎ IsLine (w ∷ ws) r) (help_sound w ws) (version_sound w ws)
-    (λ d e. plain_sound (w ∷ ws) _ (read_cases ReadsAs (λ g k. ended_reads g k g.icount g.bios) (λ g k v vs p. tt) (λ g k v key n. tt) (λ g k v u vs key n p. tt) more_reads (w ∷ ws) given_none 0))
+line_sound (w ∷ ws) = first_word w ws (λ r. IsBadLine r ⊎ IsLine (w ∷ ws) r) (help_sound w ws) (version_sound w ws) (λ d e. options_sound (w ∷ ws))
 
 -- the words of good options are read as what they ask for
-line_reads : (os : List Choice) (g h : Given) (k : ℕ) → Adds g os h → reading g k (line_words os) ≡ at_end h
+line_reads : (os : List Choice) (g h : Given) (k : ℕ) → Steps g os h → reading g k (line_words os) ≡ at_end h
 line_reads [] g h k a = ap at_end a
 line_reads (o ∷ os) g h k a =
     let F : Step → Reading = λ s. follow s (λ m. reading m (k + 2) (line_words os)) in
     ap (λ x. F (pair_step g k x o.value)) (key_of-word g o.key a.1) ∙ ap (λ x. F (value_step k x)) a.2 ∙ line_reads os a.0 h (k + 2) a.3
 
-options_read : (os : List Choice) (h : Given) (r : Recording) → Adds given_none os h → at_end h ≡ Records r → reading_of (line_words os) ≡ Records r
-options_read [] h r a e = let k : Early ≡ Records r = ap at_end a ∙ e in absurd (cc)
-options_read (o ∷ os) h r a e =
-    first_word (key_word o.key) (o.value ∷ line_words os) (λ x. x ≡ Records r) (λ p. absurd (no_key-help o.key (sym p))) (λ p. absurd (no_key-version o.key (sym p)))
+options_read : (os : List Choice) (h : Given) (m : Reading) → Steps given_none os h → at_end h ≡ m → IsRequest m → reading_of (line_words os) ≡ m
+options_read [] h m a e r = absurd (subst IsRequest (sym (ap at_end a ∙ e)) r)
+options_read (o ∷ os) h m a e r =
+    first_word (key_word o.key) (o.value ∷ line_words os) (λ x. x ≡ m) (λ p. absurd (no_key-help o.key (sym p))) (λ p. absurd (no_key-version o.key (sym p)))
     (λ c d. line_reads (o ∷ os) given_none h 0 a ∙ e)
 
+asked_reads : (words : List (List ℕ)) (m : Reading) → IsRequest m → Asked given_none words m → reading_of words ≡ m
+asked_reads words m r h = ap reading_of (sym h.spelled) ∙ options_read h.choices h.last m h.steps h.asks r
+
 pub line_complete : (words : List (List ℕ)) (m : Reading) → IsLine words m → reading_of words ≡ m
-line_complete words (Records r) h = ap reading_of (sym h.spelled) ∙ options_read h.choices h.last r h.adds h.asks
+line_complete words (Records r) h = asked_reads words (Records r) tt (asked_from_asks words (Records r) h)
+line_complete words (Replays r) h = asked_reads words (Replays r) tt (asked_from_asks words (Replays r) h)
 line_complete words Help h = ap reading_of h
 line_complete words Version h = ap reading_of h
 line_complete words (Bad k) h = absurd h
@@ -119,33 +155,35 @@ record FirstBadFrom (g : Given) (words : List (List ℕ)) (j : ℕ) : Type 0 whe
 abbrev Found : Given → ℕ → List (List ℕ) → Reading → Type 0
 Found g k words r = (n : ℕ) → r ≡ Bad n → (j : ℕ) × (n ≡ k + j) × FirstBadFrom g words j
 
-not_bad : (g : Given) (i : Option Icount) (b : Option (List ℕ)) (n : ℕ) → recording g i b ≡ Bad n → ⊥
-not_bad g (Some i) (Some b) n e = cc
-not_bad g (Some i) None n e = cc
+not_bad : (g : Given) (i : Option Icount) (b : Option (List ℕ)) (n : ℕ) → request g i b ≡ Bad n → ⊥
+not_bad g (Some (RecordInto m l)) (Some b) n e = cc
+not_bad g (Some (ReplayFrom m l)) (Some b) n e = cc
+not_bad g (Some (RecordInto m l)) None n e = cc
+not_bad g (Some (ReplayFrom m l)) None n e = cc
 not_bad g None (Some b) n e = cc
 not_bad g None None n e = cc
 
 -- the next word is no key
-bad_key : (g : Given) (k : ℕ) (w : List ℕ) (words : List (List ℕ)) → key_of g w ≡ None → Found g k (w ∷ words) (Bad k)
-bad_key g k w words e n p =
+bad_key : (g : Given) (k : ℕ) (w : List ℕ) (words : List (List ℕ)) → Together g → key_of g w ≡ None → Found g k (w ∷ words) (Bad k)
+bad_key g k w words t e n p =
     let same : k ≡ n = cc in
-    (0, omega arith, record { within = omega arith; before = continues-nil g; bad = λ h. no_key g w [] e h })
+    (0, omega arith, record { within = omega arith; before = continues-nil g t; bad = λ h. no_key g w [] e h })
 
 -- the next word is a key, and the word after it is no value
-bad_value : (g : Given) (k : ℕ) (w v : List ℕ) (words : List (List ℕ)) (key : Key) → Named g w key → with_value g key v ≡ None → Found g k (w ∷ v ∷ words) (Bad (k + 1))
-bad_value g k w v words key t f n p =
+bad_value : (g : Given) (k : ℕ) (w v : List ℕ) (words : List (List ℕ)) (key : Key) → Together g → Named g w key → with_option g key v ≡ None → Found g k (w ∷ v ∷ words) (Bad (k + 1))
+bad_value g k w v words key together t f n p =
     let same : k + 1 ≡ n = cc in (
       1,
       omega arith,
       record {
         within = omega arith;
-        before = subst (λ x. Continues g (x ∷ [])) (sym t.0) (continues-key g key t.1);
+        before = subst (λ x. Continues g (x ∷ [])) (sym t.0) (continues-key g key t.1 together);
         bad = λ h. no_value g w v [] key t.0 f h;
       },
     )
 
 -- an option was read, and the bad word comes later
-bad_later : (g m : Given) (k : ℕ) (w v : List ℕ) (words : List (List ℕ)) (key : Key) (r : Reading) → Named g w key → with_value g key v ≡ Some m → Found m (k + 2) words r → Found g k (w ∷ v ∷ words) r
+bad_later : (g m : Given) (k : ℕ) (w v : List ℕ) (words : List (List ℕ)) (key : Key) (r : Reading) → Named g w key → with_option g key v ≡ Some m → Found m (k + 2) words r → Found g k (w ∷ v ∷ words) r
 bad_later g m k w v words key r t f found n p =
     let h = found n p in
     let b = h.2 in (
@@ -160,17 +198,29 @@ bad_later g m k w v words key r t f found n p =
 
 found_bad : (words : List (List ℕ)) → Found given_none 0 words (reading given_none 0 words)
 found_bad words =
-    read_cases Found (λ g k n e. absurd (not_bad g g.icount g.bios n e)) bad_key (λ g k w key t n e. absurd (cc)) bad_value bad_later words given_none 0
+    read_cases Found (λ g k t n e. absurd (not_bad g g.icount g.bios n e)) bad_key (λ g k w key t f n e. absurd (cc)) bad_value bad_later words given_none 0 refl
+
+request_line : (words : List (List ℕ)) (m : Reading) → IsRequest m → Asked given_none words m → IsLine words m
+request_line words (Records r) q h = asks_from_asked words (Records r) h
+request_line words (Replays r) q h = asks_from_asked words (Replays r) h
+request_line words Help q h = absurd q
+request_line words Version q h = absurd q
+request_line words (Bad k) q h = absurd q
+request_line words Early q h = absurd q
 
 goes_on : (words : List (List ℕ)) → Continues given_none words → GoesOn words
 goes_on words h = record {
   rest = h.rest;
-  meaning = Records h.recording;
-  line = record { choices = h.choices; last = h.last; spelled = h.spelled; adds = h.adds; asks = h.asks };
+  meaning = h.meaning;
+  line = request_line (words ++ h.rest) h.meaning h.request (record { choices = h.choices; last = h.last; spelled = h.spelled; steps = h.steps; asks = h.asks });
 }
 
+asked_goes_on : (words rest : List (List ℕ)) (m : Reading) → IsRequest m → Asked given_none (words ++ rest) m → Continues given_none words
+asked_goes_on words rest m q h = record { rest = rest; choices = h.choices; last = h.last; meaning = m; spelled = h.spelled; steps = h.steps; asks = h.asks; request = q }
+
 plain_line : (w : List ℕ) (words rest : List (List ℕ)) (m : Reading) → (w ≡ codes "--help" → ⊥) → (w ≡ codes "--version" → ⊥) → IsLine (w ∷ words ++ rest) m → Continues given_none (w ∷ words)
-plain_line w words rest (Records r) c d h = record { rest = rest; choices = h.choices; last = h.last; recording = r; spelled = h.spelled; adds = h.adds; asks = h.asks }
+plain_line w words rest (Records r) c d h = asked_goes_on (w ∷ words) rest (Records r) tt (asked_from_asks (w ∷ words ++ rest) (Records r) h)
+plain_line w words rest (Replays r) c d h = asked_goes_on (w ∷ words) rest (Replays r) tt (asked_from_asks (w ∷ words ++ rest) (Replays r) h)
 plain_line w words rest Help c d h = absurd (c (cc))
 plain_line w words rest Version c d h = absurd (d (cc))
 plain_line w words rest (Bad k) c d h = absurd h
@@ -218,11 +268,11 @@ Misses g k words r = r ≡ Early → Continues g words
 
 plain_missing : (w : List ℕ) (ws : List (List ℕ)) → reading given_none 0 (w ∷ ws) ≡ Early → GoesOn (w ∷ ws)
 plain_missing w ws e = goes_on (w ∷ ws) (
-    read_cases Misses (λ g k p. continues-nil g) (λ g k v vs q p. absurd (cc))
-    (λ g k v key t p. subst (λ x. Continues g (x ∷ [])) (sym t.0) (continues-key g key t.1))
-    (λ g k v u vs key t f p. absurd (cc))
+    read_cases Misses (λ g k t p. continues-nil g t) (λ g k v vs t q p. absurd (cc))
+    (λ g k v key together t p. subst (λ x. Continues g (x ∷ [])) (sym t.0) (continues-key g key t.1 together))
+    (λ g k v u vs key together t f p. absurd (cc))
     (λ g m k v u vs key r t f h p. subst (λ x. Continues g (x ∷ u ∷ vs)) (sym t.0) (continues-pair g m key u vs t.1 f (h p)))
-    (w ∷ ws) given_none 0 e)
+    (w ∷ ws) given_none 0 refl e)
 
 alone_whole : (m : Reading) (ws : List (List ℕ)) → (m ≡ Early → ⊥) → alone m ws ≡ Early → ⊥
 alone_whole m [] n e = n e

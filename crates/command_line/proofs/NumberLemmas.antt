@@ -1,7 +1,7 @@
 -- What a number is read as.
 use Rattle.std.proofs.Common.{◌≡◌, ℕ, zero, suc, ◌<◌, ◌≤◌, ◌^◌, Bool, true, false, not, List, [], ◌∷◌, length, get_or, sym, ap, ◌∙◌, refl, Some, None, Result, Ok, ◌&&◌, arith, nat_le, if◌then◌else◌, inl, inr}
 use Rattle.std.specs.Fmt.{decimal}
-use Rattle.std.proofs.lemmas.Bool.{leb-true, le-leb}
+use Rattle.std.proofs.lemmas.Bool.{and_parts, leb-true, le-leb}
 use Rattle.std.proofs.lemmas.Bool.Decides.{eqb_tells}
 use Rattle.std.proofs.lemmas.Fmt.{decimal-digits_value, digits_value-decimal, digits_decimal, decimal_digit, first_decimal}
 use Rattle.std.specs.Str.{all_ascii_digits}
@@ -25,15 +25,10 @@ starts-some : (bs : List ℕ) → starts_well bs ≡ true → 0 < length bs
 starts-some [] e = absurd (cc)
 starts-some (c ∷ cs) e = omega arith
 
-both-true : (a b : Bool) → (a && b) ≡ true → (a ≡ true) × (b ≡ true)
-both-true true true e = (refl, refl)
-both-true true false e = absurd (cc)
-both-true false b e = absurd (cc)
-
 -- a number that fits is read, and as its value
 parses : {E : Type 0} (bs : List ℕ) (r : Result ℕ E) → ParsesUnsigned 64 10 bs r → is_number bs ≡ true
     → OkIff r ((0 < length bs) × (digits_value 10 bs < 2 ^ 64)) (digits_value 10 bs)
-parses bs r h d = parse_digits own 64 bs r h (sym (all-digits bs) ∙ (both-true _ _ d).0)
+parses bs r h d = parse_digits own 64 bs r h (sym (all-digits bs) ∙ (and_parts _ _ d).0)
 
 -- what was read is the number's value
 pub Ok-parsed : {E : Type 0} (bs : List ℕ) (r : Result ℕ E) (n : ℕ) → ParsesUnsigned 64 10 bs r → r ≡ Ok n → is_number bs ≡ true → n ≡ digits_value 10 bs
@@ -42,7 +37,7 @@ Ok-parsed bs r n h e d = (OkIff-at_ok r _ _ n (parses bs r h d) e).1
 -- a number that fits is read
 pub fitting-parsed : {E : Type 0} (bs : List ℕ) (r : Result ℕ E) → ParsesUnsigned 64 10 bs r → is_number bs ≡ true → digits_value 10 bs < 2 ^ 64 → r ≡ Ok (digits_value 10 bs)
 fitting-parsed bs r h d fits =
-    let b = both-true _ _ d in parse_gives own 64 bs r h (sym (all-digits bs) ∙ b.0) (starts-some bs b.1) fits
+    let b = and_parts _ _ d in parse_gives own 64 bs r h (sym (all-digits bs) ∙ b.0) (starts-some bs b.1) fits
 
 pub ruleset numbers = (Ok-parsed, fitting-parsed)
 
@@ -57,17 +52,22 @@ taken : (b : Bool) (m n : ℕ) → (if b then Some m else None) ≡ Some n → (
 taken true m n e = (refl, cc)
 taken false m n e = absurd (cc)
 
+-- what is read as a number is in the range
+pub number-range : (least most : ℕ) (bs : List ℕ) (n : ℕ) → number_in least most bs ≡ Some n → (least ≤ n) × (n ≤ most)
+number-range least most bs n e =
+    let t = taken (is_number bs && (nat_le least (digits_value 10 bs) && nat_le (digits_value 10 bs) most)) (digits_value 10 bs) n e in
+    let r = and_parts (nat_le least (digits_value 10 bs)) (nat_le (digits_value 10 bs) most) (and_parts (is_number bs) _ t.0).1 in
+    let low : least ≤ digits_value 10 bs = leb-true least (digits_value 10 bs) r.0 in
+    let high : digits_value 10 bs ≤ most = leb-true (digits_value 10 bs) most r.1 in (omega (arith, t.1), omega (arith, t.1))
+
 -- what is read as a number is its decimal digits, and in the range
 pub number-sound : (least most : ℕ) (bs : List ℕ) (n : ℕ) → n < 2 ^ 64 → number_in least most bs ≡ Some n → (least ≤ n) × (n ≤ most) × (bs ≡ decimal n)
 number-sound least most bs n fits e =
     let t = taken (is_number bs && (nat_le least (digits_value 10 bs) && nat_le (digits_value 10 bs) most)) (digits_value 10 bs) n e in
-    let a = both-true _ _ t.0 in
-    let b = both-true _ _ a.0 in
-    let r = both-true _ _ a.1 in
-    let low : least ≤ digits_value 10 bs = leb-true _ _ r.0 in
-    let high : digits_value 10 bs ≤ most = leb-true _ _ r.1 in (
-      omega (arith, t.1),
-      omega (arith, t.1),
+    let b = and_parts _ _ (and_parts _ _ t.0).0 in
+    let range = number-range least most bs n e in (
+      range.0,
+      range.1,
       sym (ap decimal (sym t.1) ∙ decimal-digits_value own bs (sym (all-digits bs) ∙ b.0) (starts-some bs b.1) (one-alone bs b.1) (omega (arith, t.1))),
     )
 
@@ -80,10 +80,13 @@ starts-decimal : (n : ℕ) → n < 2 ^ 64 → starts_well (decimal n) ≡ true
 starts-decimal zero fits = ap starts_well (decimal_digit 0 (omega arith))
 starts-decimal (suc n) fits = starts-above (decimal (suc n)) (first_decimal (suc n) (omega arith) fits)
 
+pub digits-decimal : (n : ℕ) → n < 2 ^ 64 → list_all is_ascii_digit (decimal n) ≡ true
+digits-decimal n fits = all-digits (decimal n) ∙ digits_decimal own n fits
+
 -- the decimal digits of a number in the range are read as it
 pub number-complete : (least most n : ℕ) → n < 2 ^ 64 → least ≤ n → n ≤ most → number_in least most (decimal n) ≡ Some n
 number-complete least most n fits low high =
-    let digits : list_all is_ascii_digit (decimal n) ≡ true = all-digits (decimal n) ∙ digits_decimal own n fits in
+    let digits : list_all is_ascii_digit (decimal n) ≡ true = digits-decimal n fits in
     let value : digits_value 10 (decimal n) ≡ n = digits_value-decimal own n fits in
     ap (λ m. if is_number (decimal n) && (nat_le least m && nat_le m most) then Some m else None) value
     ∙ ap (λ b. if b && (nat_le least n && nat_le n most) then Some n else None) (ap (λ b. b && starts_well (decimal n)) digits ∙ starts-decimal n fits)

@@ -1,19 +1,25 @@
--- The value of `-icount`: `shift=N,rr=record,rrfile=LOG`, its keys in any order, each once.
-use Rattle.std.specs.Prelude.{ℕ, ◌&&◌, ◌==◌, Bool, true, false, not, nat_lt, List, [], ◌∷◌, Some, None, codes, is_none, length, if◌then◌else◌, option_map, option_and_then}
+-- The value of `-icount`, its keys in any order, each once: `shift=N,rr=record,rrfile=LOG`, or
+-- `rr=replay,rrfile=LOG` with `shift=N` or without.
+use Rattle.std.specs.Prelude.{ℕ, ◌&&◌, ◌==◌, Bool, nat_lt, List, [], ◌∷◌, Some, None, codes, is_none, length, if◌then◌else◌, option_map, option_and_then}
 use Rattle.std.specs.declared.option.Option.{Option}
 use Rattle.std.specs.List.{slice_split, position_or_len, before_first, after_first}
 use Rattle.std.specs.Str.{bytes_eq}
 use Rattle.command_line.specs.Number.{number_in}
 
--- what a value of `-icount` asks for
-pub record Icount : Type 0 where
-  pub shift : ℕ
-  pub log : List ℕ
+-- what a value of `-icount` asks for: the shift, and the name of the log
+pub data Icount : Type 0 where
+  RecordInto : ℕ → List ℕ → Icount
+  ReplayFrom : Option ℕ → List ℕ → Icount
+
+-- what `rr` says is done with the log
+pub data Mode : Type 0 where
+  RecordMode : Mode
+  ReplayMode : Mode
 
 -- what its keys so far gave
 pub record Settings : Type 0 where
   pub shift : Option ℕ
-  pub records : Bool
+  pub mode : Option Mode
   pub log : Option (List ℕ)
 
 -- a name isn't empty
@@ -21,17 +27,18 @@ abbrev pub name_of : List ℕ → Option (List ℕ)
 name_of [] = None
 name_of (c ∷ cs) = Some (c ∷ cs)
 
--- `rr` has the value `record` alone
-abbrev pub with_mode : Settings → List ℕ → Option Settings
-with_mode s value =
-    if bytes_eq value (codes "record") then Some (record s { records = true }) else None
+abbrev pub mode_of : List ℕ → Option Mode
+mode_of value =
+    if bytes_eq value (codes "record") then Some RecordMode else
+    if bytes_eq value (codes "replay") then Some ReplayMode else None
 
 -- the settings with one key more, which wasn't given yet and has a good value
 abbrev pub with_setting : Settings → List ℕ → List ℕ → Option Settings
 with_setting s key value =
     if bytes_eq key (codes "shift") && is_none s.shift
     then option_map (λ n. record s { shift = Some n }) (number_in 0 10 value) else
-    if bytes_eq key (codes "rr") && not s.records then with_mode s value else
+    if bytes_eq key (codes "rr") && is_none s.mode
+    then option_map (λ mode. record s { mode = Some mode }) (mode_of value) else
     if bytes_eq key (codes "rrfile") && is_none s.log
     then option_map (λ name. record s { log = Some name }) (name_of value) else None
 
@@ -52,15 +59,16 @@ with_parts s [] = Some s
 with_parts s (part ∷ rest) = option_and_then (λ t. with_parts t rest) (with_part s part)
 
 abbrev pub no_settings : Settings
-no_settings = record { shift = None; records = false; log = None }
+no_settings = record { shift = None; mode = None; log = None }
 
--- each key must have been given
-abbrev pub whole_of : Option ℕ → Bool → Option (List ℕ) → Option Icount
-whole_of (Some shift) true (Some log) = Some (record { shift = shift; log = log })
+-- each key must have been given, but `shift` to a replay
+abbrev pub whole_of : Option ℕ → Option Mode → Option (List ℕ) → Option Icount
+whole_of (Some shift) (Some RecordMode) (Some log) = Some (RecordInto shift log)
+whole_of shift (Some ReplayMode) (Some log) = Some (ReplayFrom shift log)
 whole_of _ _ _ = None
 
 abbrev pub whole : Settings → Option Icount
-whole s = whole_of s.shift s.records s.log
+whole s = whole_of s.shift s.mode s.log
 
 -- what the value asks for, by its parts between the commas
 abbrev pub icount_of : List ℕ → Option Icount

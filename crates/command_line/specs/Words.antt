@@ -1,9 +1,9 @@
 -- The words of the command line: options in any order, each at most once, or one word alone.
-use Rattle.std.specs.Prelude.{ℕ, ◌+◌, ◌<◌, ◌^◌, ◌&&◌, List, [], ◌∷◌, Some, None, codes, is_none, if◌then◌else◌, option_map, unwrap_or, ⊤}
+use Rattle.std.specs.Prelude.{ℕ, ◌+◌, ◌<◌, ◌≤◌, ◌^◌, ◌&&◌, ◌||◌, Bool, true, false, not, List, [], ◌∷◌, Some, None, IfSome, codes, is_none, if◌then◌else◌, option_map, option_and_then, unwrap_or, ⊤}
 use Rattle.std.specs.declared.option.Option.{Option}
 use Rattle.std.specs.Str.{bytes_eq}
 use Rattle.command_line.specs.Number.{number_in}
-use Rattle.command_line.specs.Icount.{Icount, name_of, icount_of}
+use Rattle.command_line.specs.Icount.{Icount, RecordInto, ReplayFrom, name_of, icount_of}
 
 -- what words ask to record
 pub record Recording : Type 0 where
@@ -14,9 +14,17 @@ pub record Recording : Type 0 where
   pub log : List ℕ
   pub bios : List ℕ
 
+-- what words ask to replay; the log has whatever isn't given
+pub record Replaying : Type 0 where
+  pub shift : Option ℕ
+  pub ram_mib : Option ℕ
+  pub log : List ℕ
+  pub bios : List ℕ
+
 -- what words are: a request, or word number n is bad, or they end early
 pub data Reading : Type 0 where
   Records : Recording → Reading
+  Replays : Replaying → Reading
   Help : Reading
   Version : Reading
   Bad : ℕ → Reading
@@ -30,7 +38,7 @@ pub record Given : Type 0 where
   pub budget : Option ℕ
   pub slice : Option ℕ
 
--- an option that may still come
+-- an option, by the word before its value
 pub data Key : Type 0 where
   IcountKey : Key
   BiosKey : Key
@@ -38,16 +46,34 @@ pub data Key : Type 0 where
   BudgetKey : Key
   SliceKey : Key
 
--- the option that a word names, where it wasn't given yet
+-- the log is to be replayed
+abbrev pub is_replay : Option Icount → Bool
+is_replay (Some (ReplayFrom shift log)) = true
+is_replay (Some (RecordInto shift log)) = false
+is_replay None = false
+
+-- a replay takes the budget and the slice from its log
+abbrev pub go_together : Given → Bool
+go_together g = not (is_replay g.icount) || (is_none g.budget && is_none g.slice)
+
+-- the option may still come: it wasn't given yet, and goes with what was
+abbrev pub is_open : Given → Key → Bool
+is_open g IcountKey = is_none g.icount
+is_open g BiosKey = is_none g.bios
+is_open g RamKey = is_none g.ram_mib
+is_open g BudgetKey = is_none g.budget && not (is_replay g.icount)
+is_open g SliceKey = is_none g.slice && not (is_replay g.icount)
+
+-- the option that a word names, where it may still come
 abbrev pub key_of : Given → List ℕ → Option Key
 key_of g word =
-    if bytes_eq word (codes "-icount") && is_none g.icount then Some IcountKey else
-    if bytes_eq word (codes "-bios") && is_none g.bios then Some BiosKey else
-    if bytes_eq word (codes "-m") && is_none g.ram_mib then Some RamKey else
-    if bytes_eq word (codes "-budget") && is_none g.budget then Some BudgetKey else
-    if bytes_eq word (codes "-slice") && is_none g.slice then Some SliceKey else None
+    if bytes_eq word (codes "-icount") && is_open g IcountKey then Some IcountKey else
+    if bytes_eq word (codes "-bios") && is_open g BiosKey then Some BiosKey else
+    if bytes_eq word (codes "-m") && is_open g RamKey then Some RamKey else
+    if bytes_eq word (codes "-budget") && is_open g BudgetKey then Some BudgetKey else
+    if bytes_eq word (codes "-slice") && is_open g SliceKey then Some SliceKey else None
 
--- the same with an option's value, where it is one
+-- the options with one more, where its value is one
 abbrev pub with_value : Given → Key → List ℕ → Option Given
 with_value g IcountKey value = option_map (λ x. record g { icount = Some x }) (icount_of value)
 with_value g BiosKey value = option_map (λ x. record g { bios = Some x }) (name_of value)
@@ -57,20 +83,33 @@ with_value g BudgetKey value =
 with_value g SliceKey value =
     option_map (λ x. record g { slice = Some x }) (number_in 1 65536 value)
 
--- at the end `-icount` and `-bios` must be there, and what isn't given has its default
-abbrev pub recording : Given → Option Icount → Option (List ℕ) → Reading
-recording g (Some icount) (Some bios) = Records (record {
-  shift = icount.shift;
+abbrev pub together : Given → Option Given
+together g = if go_together g then Some g else None
+
+-- the same, where the options then go together
+abbrev pub with_option : Given → Key → List ℕ → Option Given
+with_option g key value = option_and_then together (with_value g key value)
+
+-- at the end `-icount` and `-bios` must be there, and what a recording isn't given has its default
+abbrev pub request : Given → Option Icount → Option (List ℕ) → Reading
+request g (Some (RecordInto shift log)) (Some bios) = Records (record {
+  shift = shift;
   ram_mib = unwrap_or g.ram_mib 16;
   slice = unwrap_or g.slice 10000;
   budget = unwrap_or g.budget 1000000000;
-  log = icount.log;
+  log = log;
   bios = bios;
 })
-recording g _ _ = Early
+request g (Some (ReplayFrom shift log)) (Some bios) = Replays (record {
+  shift = shift;
+  ram_mib = g.ram_mib;
+  log = log;
+  bios = bios;
+})
+request g _ _ = Early
 
 abbrev pub at_end : Given → Reading
-at_end g = recording g g.icount g.bios
+at_end g = request g g.icount g.bios
 
 -- the options so far after an option and its value, or what the words are
 pub data Step : Type 0 where
@@ -83,7 +122,7 @@ value_step k None = Stop (Bad (k + 1))
 
 abbrev pub pair_step : Given → ℕ → Option Key → List ℕ → Step
 pair_step g k None value = Stop (Bad k)
-pair_step g k (Some key) value = value_step k (with_value g key value)
+pair_step g k (Some key) value = value_step k (with_option g key value)
 
 abbrev pub follow : Step → (Given → Reading) → Reading
 follow (Next g) f = f g
@@ -120,6 +159,7 @@ reading_of (word ∷ rest) =
 -- the words leave the grammar
 abbrev pub IsBadLine : Reading → Type 0
 IsBadLine (Records r) = ⊥
+IsBadLine (Replays r) = ⊥
 IsBadLine Help = ⊥
 IsBadLine Version = ⊥
 IsBadLine (Bad k) = ⊤
@@ -129,3 +169,20 @@ IsBadLine Early = ⊤
 abbrev pub NamesWord : Reading → ℕ → Type 0
 NamesWord (Bad k) n = k < n
 NamesWord r n = ⊤
+
+-- what words can ask to record
+pub record IsInRange (r : Recording) : Type 0 where
+  pub shift : r.shift ≤ 10
+  pub ram_mib : (1 ≤ r.ram_mib) × (r.ram_mib ≤ 64)
+  pub slice : (1 ≤ r.slice) × (r.slice ≤ 65536)
+  pub budget : (1 ≤ r.budget) × (r.budget ≤ 2 ^ 40)
+
+-- what words can ask to replay
+pub record IsReplayInRange (r : Replaying) : Type 0 where
+  pub shift : IfSome r.shift (λ n. n ≤ 10)
+  pub ram_mib : IfSome r.ram_mib (λ n. (1 ≤ n) × (n ≤ 64))
+
+abbrev pub IsLineInRange : Reading → Type 0
+IsLineInRange (Records r) = IsInRange r
+IsLineInRange (Replays r) = IsReplayInRange r
+IsLineInRange other = ⊤

@@ -1,9 +1,9 @@
 //! The value of `-icount`: its settings, parted by commas.
 ghost use Rattle.std.specs.Prelude.{◌≡◌, length, option_map, option_copied, option_and_then};
 ghost use Rattle.std.specs.List.{slice_split};
-ghost use Rattle.command_line.specs.Icount.{name_of, with_setting, with_part, with_parts, is_comma, whole, icount_of};
+ghost use Rattle.command_line.specs.Icount.{name_of, mode_of, with_setting, with_part, with_parts, is_comma, whole, icount_of};
 ghost use Rattle.command_line.specs.Number.{number_in};
-ghost use Rattle.command_line.specs.Line.{seen_icount, seen_settings};
+ghost use Rattle.command_line.specs.Line.{seen_icount, seen_mode, seen_settings};
 
 use crate::number::number;
 
@@ -11,16 +11,23 @@ const SHIFT_MAX: u64 = 10;
 
 /// What a value of `-icount` asks for.
 #[derive(Clone, Copy, Debug)]
-pub(crate) struct Icount<'a> {
-    pub shift: u8,
-    pub log: &'a str,
+pub(crate) enum Icount<'a> {
+    Record { shift: u8, log: &'a str },
+    Replay { shift: Option<u8>, log: &'a str },
+}
+
+/// What `rr` says is done with the log.
+#[derive(Clone, Copy, Debug)]
+enum Mode {
+    Record,
+    Replay,
 }
 
 /// What its keys so far gave.
 #[derive(Clone, Copy, Debug)]
 struct Settings<'a> {
     shift: Option<u8>,
-    records: bool,
+    mode: Option<Mode>,
     log: Option<&'a str>,
 }
 
@@ -37,6 +44,16 @@ fn shift(text: &str) -> Option<u8>
     Some(number(text, 0, SHIFT_MAX)? as u8)
 }
 
+fn mode_value(text: &str) -> Option<Mode>
+    ensures { option_map seen_mode result ≡ mode_of text.now }
+{
+    match text {
+        "record" => Some(Mode::Record),
+        "replay" => Some(Mode::Replay),
+        _ => None,
+    }
+}
+
 fn with_setting<'a>(settings: Settings<'a>, key: &str, value: &'a str) -> Option<Settings<'a>>
     ensures { option_map seen_settings result
         ≡ with_setting (seen_settings settings.entry) key.now value.now }
@@ -46,8 +63,8 @@ fn with_setting<'a>(settings: Settings<'a>, key: &str, value: &'a str) -> Option
             shift: Some(shift(value)?),
             ..settings
         }),
-        "rr" if !settings.records && value == "record" => Some(Settings {
-            records: true,
+        "rr" if settings.mode.is_none() => Some(Settings {
+            mode: Some(mode_value(value)?),
             ..settings
         }),
         "rrfile" if settings.log.is_none() => Some(Settings {
@@ -78,13 +95,15 @@ fn with_parts<'a>(settings: Settings<'a>, parts: &'a str) -> Option<Settings<'a>
 fn whole<'a>(settings: Settings<'a>) -> Option<Icount<'a>>
     ensures { option_map seen_icount result ≡ whole (seen_settings settings.entry) }
 {
-    match settings {
-        Settings {
-            shift: Some(shift),
-            records: true,
-            log: Some(log),
-        } => Some(Icount { shift, log }),
-        _ => None,
+    match (settings.mode?, settings.log?) {
+        (Mode::Record, log) => Some(Icount::Record {
+            shift: settings.shift?,
+            log,
+        }),
+        (Mode::Replay, log) => Some(Icount::Replay {
+            shift: settings.shift,
+            log,
+        }),
     }
 }
 
@@ -94,7 +113,7 @@ pub(crate) fn icount_value(value: &str) -> Option<Icount<'_>>
 {
     let none = Settings {
         shift: None,
-        records: false,
+        mode: None,
         log: None,
     };
     whole(with_parts(none, value)?)

@@ -1,7 +1,9 @@
 //! The words of rrvm's command line: what they ask for, or the first of them that is bad.
 //!
-//! `rrvm -icount shift=N,rr=record,rrfile=LOG -bios FILE [-m MIB] [-budget T] [-slice S]`
-//! records a run, and `--help` or `--version` stands alone.
+//! `rrvm -icount shift=N,rr=record,rrfile=LOG -bios FILE [-m MIB] [-budget T] [-slice S]` records
+//! a run, `rrvm -icount rr=replay,rrfile=LOG[,shift=N] -bios FILE [-m MIB]` replays one, and
+//! `--help` or `--version` stands alone. The options come in any order, and so do the keys of
+//! `-icount`, each of them once.
 #![tactic(auto)]
 
 mod icount;
@@ -12,5 +14,5 @@ mod options;
 #[cfg(test)]
 mod tests;
 
-pub use laws::{first_bad_word_law, line_law, missing_words_law, number_law};
-pub use line::{Line, RecordWords, read_line};
+pub use laws::{first_bad_word_law, icount_law, line_law, missing_words_law, number_law};
+pub use line::{Line, RecordWords, ReplayWords, read_line};

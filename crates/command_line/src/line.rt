@@ -1,6 +1,6 @@
 //! What the words of a command line are.
 ghost use Rattle.std.specs.Prelude.{◌≡◌, ◌+◌, ◌<◌, ◌^◌, length, map, string_bytes};
-ghost use Rattle.command_line.specs.Words.{reading, alone, NamesWord};
+ghost use Rattle.command_line.specs.Words.{reading, alone, NamesWord, IsLineInRange};
 ghost use Rattle.command_line.specs.Line.{seen_line, seen_given, line_in};
 
 use crate::options::Options;
@@ -22,10 +22,24 @@ pub struct RecordWords<'a> {
     pub bios: &'a str,
 }
 
+/// What words ask to replay. The log has the budget and the slice, and what isn't given here.
+#[derive(Clone, Copy, Debug, PartialEq, Eq)]
+pub struct ReplayWords<'a> {
+    /// The shift that the log must have. At most 10.
+    pub shift: Option<u8>,
+    /// The RAM in MiB that the log must have, from 1 to 64.
+    pub ram_mib: Option<u8>,
+    /// The name of the log's file.
+    pub log: &'a str,
+    /// The name of the firmware's file.
+    pub bios: &'a str,
+}
+
 /// What words are.
 #[derive(Clone, Copy, Debug, PartialEq, Eq)]
 pub enum Line<'a> {
     Record(RecordWords<'a>),
+    Replay(ReplayWords<'a>),
     Help,
     Version,
     /// The number of the first word, from 0, that no allowed line goes on with.
@@ -70,6 +84,7 @@ fn read_from<'a>(options: Options<'a>, number: usize, words: &'a [String]) -> Li
 pub fn read_line<'a>(words: &'a [String]) -> Line<'a>
     ensures value { seen_line result ≡ line_in words.now }
     ensures named { NamesWord (seen_line result) (length words.now) }
+    ensures range { IsLineInRange (seen_line result) }
 {
     let [first, rest @ ..] = words else {
         return Line::WordsMissing;

@@ -1,11 +1,11 @@
 //! The options that the words so far gave.
 ghost use Rattle.std.specs.Prelude.{◌≡◌, option_map, option_copied};
 ghost use Rattle.command_line.specs.Number.{number_in};
-ghost use Rattle.command_line.specs.Words.{key_of, with_value, at_end, given_none};
+ghost use Rattle.command_line.specs.Words.{key_of, is_replay, go_together, with_value, with_option, at_end, given_none};
 ghost use Rattle.command_line.specs.Line.{seen_line, seen_given, seen_key};
 
 use crate::icount::{Icount, icount_value, name};
-use crate::line::{Line, RecordWords};
+use crate::line::{Line, RecordWords, ReplayWords};
 use crate::number::number;
 
 // What each number may be at most, and what it is where it isn't given.
@@ -67,7 +67,20 @@ impl<'a> Options<'a> {
         }
     }
 
-    /// The option that the word names, where it wasn't given yet.
+    fn is_replay(&self) -> bool
+        ensures { result ≡ is_replay (seen_given self.now).icount }
+    {
+        matches!(self.icount, Some(Icount::Replay { .. }))
+    }
+
+    /// A replay takes the budget and the slice from its log.
+    fn go_together(&self) -> bool
+        ensures { result ≡ go_together (seen_given self.now) }
+    {
+        !self.is_replay() || self.budget.is_none() && self.slice.is_none()
+    }
+
+    /// The option that the word names, where it may still come.
     pub(crate) fn key(&self, word: &str) -> Option<OptionKey>
         ensures { option_map seen_key result ≡ key_of (seen_given self.now) word.now }
     {
@@ -75,14 +88,14 @@ impl<'a> Options<'a> {
             "-icount" if self.icount.is_none() => Some(OptionKey::Icount),
             "-bios" if self.bios.is_none() => Some(OptionKey::Bios),
             "-m" if self.ram_mib.is_none() => Some(OptionKey::Ram),
-            "-budget" if self.budget.is_none() => Some(OptionKey::Budget),
-            "-slice" if self.slice.is_none() => Some(OptionKey::Slice),
+            "-budget" if self.budget.is_none() && !self.is_replay() => Some(OptionKey::Budget),
+            "-slice" if self.slice.is_none() && !self.is_replay() => Some(OptionKey::Slice),
             _ => None,
         }
     }
 
     /// The options with this value, where it is one of the key's.
-    pub(crate) fn with(self, key: OptionKey, value: &'a str) -> Option<Options<'a>>
+    fn with_value(self, key: OptionKey, value: &'a str) -> Option<Options<'a>>
         ensures { option_map seen_given result
             ≡ with_value (seen_given self.entry) (seen_key key) value.now }
     {
@@ -110,17 +123,32 @@ impl<'a> Options<'a> {
         }
     }
 
+    /// The same, where the options then go together.
+    pub(crate) fn with(self, key: OptionKey, value: &'a str) -> Option<Options<'a>>
+        ensures { option_map seen_given result
+            ≡ with_option (seen_given self.entry) (seen_key key) value.now }
+    {
+        let more = self.with_value(key, value)?;
+        if more.go_together() { Some(more) } else { None }
+    }
+
     /// What the words are, if they end here.
     pub(crate) fn at_end(&self) -> Line<'a>
         ensures { seen_line result ≡ at_end (seen_given self.now) }
     {
         match (self.icount, self.bios) {
-            (Some(icount), Some(bios)) => Line::Record(RecordWords {
-                shift: icount.shift,
+            (Some(Icount::Record { shift, log }), Some(bios)) => Line::Record(RecordWords {
+                shift,
                 ram_mib: self.ram_mib.unwrap_or(RAM_MIB_DEFAULT),
                 slice: self.slice.unwrap_or(SLICE_DEFAULT),
                 budget: self.budget.unwrap_or(BUDGET_DEFAULT),
-                log: icount.log,
+                log,
+                bios,
+            }),
+            (Some(Icount::Replay { shift, log }), Some(bios)) => Line::Replay(ReplayWords {
+                shift,
+                ram_mib: self.ram_mib,
+                log,
                 bios,
             }),
             _ => Line::WordsMissing,

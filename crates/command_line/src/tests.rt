@@ -41,6 +41,36 @@ fn a_line_gives_each_option_or_its_default(rt: HostRuntime) -> Result<(), Fail> 
 }
 
 #[test]
+fn a_replay_gives_what_its_log_must_have(rt: HostRuntime) -> Result<(), Fail> {
+    for (line, shift, ram_mib) in [
+        ("-icount rr=replay,rrfile=a -bios b", None, None),
+        ("-bios b -icount rrfile=a,rr=replay", None, None),
+        ("-icount rr=replay,rrfile=a -m 1 -bios b", None, Some(1)),
+        ("-bios b -icount rr=replay,rrfile=a,shift=0", Some(0), None),
+        (
+            "-bios b -m 16 -icount shift=10,rrfile=a,rr=replay",
+            Some(10),
+            Some(16),
+        ),
+        (
+            "-m 64 -icount rrfile=a,shift=1,rr=replay -bios b",
+            Some(1),
+            Some(64),
+        ),
+    ] {
+        let given = words(rt.alloc(), line)?;
+        let asked = ReplayWords {
+            shift,
+            ram_mib,
+            log: "a",
+            bios: "b",
+        };
+        assert_eq!(rt; read_line(&given), Line::Replay(asked), "at {line}");
+    }
+    Ok(())
+}
+
+#[test]
 fn a_line_that_leaves_the_grammar_is_refused_at_its_first_bad_word(
     rt: HostRuntime,
 ) -> Result<(), Fail> {
@@ -48,7 +78,13 @@ fn a_line_that_leaves_the_grammar_is_refused_at_its_first_bad_word(
         ("-icount shift=11,rr=record,rrfile=a -bios b", 1),
         ("-icount shift=01,rr=record,rrfile=a -bios b", 1),
         ("-icount shift=1,rr=record,rrfile=a, -bios b", 1),
-        ("-icount shift=1,rr=replay,rrfile=a -bios b", 1),
+        ("-icount shift=1,rr=check,rrfile=a -bios b", 1),
+        ("-icount rr=record,rrfile=a -bios b", 1),
+        ("-icount rr=replay,rrfile=a,rr=replay -bios b", 1),
+        ("-icount rr=replay,rrfile=a -budget 1 -bios b", 2),
+        ("-icount rr=replay,rrfile=a -bios b -slice 1", 4),
+        ("-budget 1 -icount rr=replay,rrfile=a -bios b", 3),
+        ("-bios b -slice 1 -icount rr=replay,rrfile=a", 5),
         ("-icount shift=1,rr=record,rrfile= -bios b", 1),
         ("-bios b -bios c", 2),
         ("-bios b -m 0 -x", 3),
@@ -69,6 +105,7 @@ fn a_line_that_ends_early_misses_words(rt: HostRuntime) -> Result<(), Fail> {
         "-icount shift=1,rr=record,rrfile=a",
         "-bios b",
         "-bios b -icount",
+        "-icount rr=replay,rrfile=a -m 1",
     ] {
         let given = words(rt.alloc(), line)?;
         assert_eq!(rt; read_line(&given), Line::WordsMissing, "at {line}");

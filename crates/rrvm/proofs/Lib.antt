@@ -1,7 +1,10 @@
 pub mod ReadLemmas
-pub mod Ranges
 pub mod Fresh
 pub mod Logs
 pub mod FileHeld
 pub mod Ran
+pub mod Played
+pub mod Replayed
 pub mod Telling
+pub mod Completing
+pub mod Statuses

@@ -30,7 +30,7 @@ use Rattle.rrvm.proofs.Logs.{is_log}
 abbrev pub Gives : Option (List ℕ) → ℕ → Firmware → Type 0
 Gives held mib f = IfSome held (λ file. IsFirmwareOf file mib f × (length file ≤ FIRMWARE_LIMIT))
 
-start-quiet : (h : Header) (firmware : Loaded) → (start_of h firmware).devices.uart.out ≡ []
+pub start-quiet : (h : Header) (firmware : Loaded) → (start_of h firmware).devices.uart.out ≡ []
 unfolding reset
 start-quiet h firmware = refl
 
@@ -74,23 +74,19 @@ by-reason : (r : Recording) (old new : Ledger) (reason code : ℕ) (a b : Bool) 
     → IsOwnReason reason code → IfSome (old.names r.bios) (λ file. IsRecorded r file new reason code)
     → Cause (Records r) old new (if a then outcome.GuestEnded code else if b then outcome.IdleForEver else outcome.BudgetReached)
 by-reason r old new reason code true b e f own k =
-    (tt, subst (λ (z : ℕ). IfSome (old.names r.bios) (λ file. IsRecorded r file new z code)) (eqb-true reason 0 e) k)
+    subst (λ (z : ℕ). IfSome (old.names r.bios) (λ file. IsRecorded r file new z code)) (eqb-true reason 0 e) k
 by-reason r old new reason code false true e f own k =
     let one = eqb-true reason 1 f in
-    let none = own.1 (omega (arith, one)) in (
-      tt,
-      subst (λ (z : ℕ). IfSome (old.names r.bios) (λ file. IsRecorded r file new z 0)) one
-          (subst (λ (z : ℕ). IfSome (old.names r.bios) (λ file. IsRecorded r file new reason z)) none k),
-    )
+    let none = own.1 (omega (arith, one)) in
+    subst (λ (z : ℕ). IfSome (old.names r.bios) (λ file. IsRecorded r file new z 0)) one
+    (subst (λ (z : ℕ). IfSome (old.names r.bios) (λ file. IsRecorded r file new reason z)) none k)
 by-reason r old new reason code false false e f own k =
     let not_zero = eqb-false reason 0 e in
     let not_one = eqb-false reason 1 f in
     let two : reason ≡ 2 = omega (arith, not_zero, not_one, own.0) in
-    let none = own.1 (omega (arith, two)) in (
-      tt,
-      subst (λ (z : ℕ). IfSome (old.names r.bios) (λ file. IsRecorded r file new z 0)) two
-          (subst (λ (z : ℕ). IfSome (old.names r.bios) (λ file. IsRecorded r file new reason z)) none k),
-    )
+    let none = own.1 (omega (arith, two)) in
+    subst (λ (z : ℕ). IfSome (old.names r.bios) (λ file. IsRecorded r file new z 0)) two
+    (subst (λ (z : ℕ). IfSome (old.names r.bios) (λ file. IsRecorded r file new reason z)) none k)
 
 ending-cause : (r : Recording) (old mid new : Ledger) (f : Firmware) (h : Header) (end : RecordingEnd) → Gives (old.names r.bios) r.ram_mib f
     → h ≡ recording_header r f.digest → IfEnds end (λ reason code. HasWhole h f.loaded new reason code)
@@ -104,11 +100,11 @@ ending-cause r old mid new f h (ends.End reason code) gives same whole a b c p q
     by-reason r old new reason code (reason == 0) (reason == 1) refl refl whole.1
     (run-recorded (old.names r.bios) r f h new reason code gives same whole.0)
 ending-cause r old mid new f h ends.CannotOpenLog gives same whole a b c p q s =
-    (tt, subst (λ (z : ℕ). Rose z new.opening_faults) p (a refl))
+    subst (λ (z : ℕ). Rose z new.opening_faults) p (a refl)
 ending-cause r old mid new f h ends.ConsoleFailed gives same whole a b c p q s =
     (subst (λ (z : ℕ). Rose z (at new.faults ConsoleOut)) q (b refl), run-good (old.names r.bios) r f gives)
 ending-cause r old mid new f h ends.LogFailed gives same whole a b c p q s =
-    (tt, subst (λ (z : ℕ). Rose z (at new.faults LogOut)) s (c refl), run-good (old.names r.bios) r f gives)
+    (subst (λ (z : ℕ). Rose z (at new.faults LogOut)) s (c refl), run-good (old.names r.bios) r f gives)
 ending-cause r old mid new f h ends.NoMemory gives same whole a b c p q s = tt
 
 pub run-cause : (r : Recording) (old mid new : Ledger) (f : Firmware) (h : Header) (end : RecordingEnd) (result : Outcome)

@@ -1,22 +1,22 @@
 -- Saying how a run ended changes the messages alone, so its cause stays.
-use Rattle.std.proofs.Common.{◌≡◌, ◌<◌, ◌⊎◌, inl, inr, ℕ, Bool, true, false, List, [], sym, ap, ◌∙◌, subst}
-use Rattle.std.specs.Prelude.{Some, None, IfSome, ◌==◌, if◌then◌else◌}
+use Rattle.std.proofs.Common.{◌≡◌, ◌<◌, ◌⊎◌, inl, inr, ℕ, List, [], refl, sym, ap, ◌∙◌, subst}
+use Rattle.std.specs.Prelude.{Some, None, IfSome}
 use Rattle.std.specs.declared.option.Option.{Option}
-use Rattle.outside.specs.Causes.{Stood}
+use Rattle.outside.specs.Causes.{Rose, Stood}
 use Rattle.outside.specs.Told.{Takes, TakesFront}
 use Rattle.outside.specs.Ledger.{Ledger}
 use Rattle.outside.specs.Roles.{at}
-use Rattle.outside.specs.declared.roles.Role.TheVariants.{LogOut, Messages}
-use Rattle.command_line.specs.Words.{Recording, Reading, Records, Help, Version, Bad, Early}
-use Rattle.elf_load.specs.declared.error.LoadError.{LoadError}
+use Rattle.outside.specs.declared.roles.Role.TheVariants.{ConsoleOut, LogIn, LogOut, Messages}
+use Rattle.command_line.specs.Words.{Recording, Replaying, Reading, Records, Replays, Help, Version, Bad, Early}
+use Rattle.log_order.specs.declared.refusal.Refusal.{Refusal}
 use Rattle.rrvm.specs.declared.outcome.Outcome.{Outcome}
-use Rattle.rrvm.specs.declared.outcome.Outcome.TheVariants.{Printed, GuestEnded, IdleForEver, BudgetReached, BadWord, WordsMissing, CannotOpen, CannotRead, ConsoleFailed, LogFailed, BadFirmware, NoMemory}
+use Rattle.rrvm.specs.declared.outcome.Outcome.TheVariants.{Printed, GuestEnded, IdleForEver, BudgetReached, BadWord, WordsMissing, CannotOpen, CannotRead, ConsoleFailed, LogFailed, LogUnreadable, BadFirmware, RecordingStopped, HeaderRefused, LogRefused, ImagesDiffer, LogTooLong, NoMemory}
 use Rattle.rrvm.specs.Ledgers.{only, only_run}
 use Rattle.rrvm.specs.Outcomes.{status_of}
 use Rattle.rrvm.specs.Messages.{line_of}
-use Rattle.rrvm.specs.Firmwares.{IsBadFirmware}
 use Rattle.rrvm.specs.Recordings.{IsRecorded, IsLogged}
-use Rattle.rrvm.specs.Answers.{Cause, Explained, IfRecords, IsEnded, IsPrinted}
+use Rattle.rrvm.specs.Replays.{IsReplayed, IsRefusedLog, IsShown}
+use Rattle.rrvm.specs.Answers.{Cause, RecordCause, ReplayCause, PrintCause, Explained, IfBoth, IfRecords, IfReplays, IsPrinted}
 
 -- the ledger after the messages were said
 abbrev said : Ledger → Ledger → Ledger
@@ -27,12 +27,51 @@ recorded-stays : (o : Option (List ℕ)) (r : Recording) (mid new : Ledger) (rea
 recorded-stays None r mid new reason code k = tt
 recorded-stays (Some file) r mid new reason code k = record { firmware = k.firmware; loads = k.loads; fits = k.fits; whole = k.whole }
 
-ended-stays : (r : Reading) (old mid new : Ledger) (reason code : ℕ) → IsEnded r old mid reason code → IsEnded r old (said mid new) reason code
-ended-stays (Records words) old mid new reason code k = (tt, recorded-stays (old.names words.bios) words mid new reason code k.1)
-ended-stays Help old mid new reason code k = k
-ended-stays Version old mid new reason code k = k
-ended-stays (Bad n) old mid new reason code k = k
-ended-stays Early old mid new reason code k = k
+replayed-stays : (o held : Option (List ℕ)) (r : Replaying) (mid new : Ledger) (reason code : ℕ)
+    → IfBoth o held (λ log file. IsReplayed r log file mid reason code)
+    → IfBoth o held (λ log file. IsReplayed r log file (said mid new) reason code)
+replayed-stays None held r mid new reason code k = tt
+replayed-stays (Some log) None r mid new reason code k = tt
+replayed-stays (Some log) (Some file) r mid new reason code k = record {
+  header = k.header;
+  firmware = k.firmware;
+  starts = k.starts;
+  last = k.last;
+  whole = k.whole;
+  ended = k.ended;
+  console = k.console;
+}
+
+refused-stays : (o held : Option (List ℕ)) (r : Replaying) (mid new : Ledger) (refusal : Refusal)
+    → IfBoth o held (λ log file. IsRefusedLog r log file mid refusal)
+    → IfBoth o held (λ log file. IsRefusedLog r log file (said mid new) refusal)
+refused-stays None held r mid new refusal k = tt
+refused-stays (Some log) None r mid new refusal k = tt
+refused-stays (Some log) (Some file) r mid new refusal k = record {
+  header = k.header;
+  firmware = k.firmware;
+  starts = k.starts;
+  mid = k.mid;
+  last = k.last;
+  wrong = k.wrong;
+  console = k.console;
+}
+
+shown-stays : (o held : Option (List ℕ)) (r : Replaying) (mid new : Ledger)
+    → IfBoth o held (λ log file. IsShown r log file mid)
+    → IfBoth o held (λ log file. IsShown r log file (said mid new))
+shown-stays None held r mid new k = tt
+shown-stays (Some log) None r mid new k = tt
+shown-stays (Some log) (Some file) r mid new k = record {
+  header = k.header;
+  firmware = k.firmware;
+  starts = k.starts;
+  events = k.events;
+  rest = k.rest;
+  last = k.last;
+  accepted = k.accepted;
+  console = k.console;
+}
 
 logged-stays : (o : Option (List ℕ)) (r : Recording) (mid new : Ledger)
     → IfSome o (λ file. IsLogged r file mid) → IfSome o (λ file. IsLogged r file (said mid new))
@@ -42,38 +81,107 @@ logged-stays (Some file) r mid new k = record { firmware = k.firmware; loads = k
 logs-stay : (r : Reading) (old mid new : Ledger) → IfRecords r old (λ words file. IsLogged words file mid)
     → IfRecords r old (λ words file. IsLogged words file (said mid new))
 logs-stay (Records words) old mid new k = logged-stays (old.names words.bios) words mid new k
+logs-stay (Replays words) old mid new k = tt
 logs-stay Help old mid new k = tt
 logs-stay Version old mid new k = tt
 logs-stay (Bad n) old mid new k = tt
 logs-stay Early old mid new k = tt
 
-printed-stays : (r : Reading) (mid new : Ledger) → IsPrinted r mid → IsPrinted r (said mid new)
-printed-stays (Records words) mid new k = k
-printed-stays Help mid new k = k
-printed-stays Version mid new k = k
-printed-stays (Bad n) mid new k = k
-printed-stays Early mid new k = k
+shows-stay : (r : Reading) (old mid new : Ledger) → IfReplays r old (λ words log file. IsShown words log file mid)
+    → IfReplays r old (λ words log file. IsShown words log file (said mid new))
+shows-stay (Records words) old mid new k = tt
+shows-stay (Replays words) old mid new k = shown-stays (old.names words.log) (old.names words.bios) words mid new k
+shows-stay Help old mid new k = tt
+shows-stay Version old mid new k = tt
+shows-stay (Bad n) old mid new k = tt
+shows-stay Early old mid new k = tt
+
+record-stays : (r : Recording) (old mid new : Ledger) (outcome : Outcome) → RecordCause r old mid outcome
+    → RecordCause r old (said mid new) outcome
+record-stays r old mid new Printed k = k
+record-stays r old mid new (GuestEnded code) k = recorded-stays (old.names r.bios) r mid new 0 code k
+record-stays r old mid new IdleForEver k = recorded-stays (old.names r.bios) r mid new 1 0 k
+record-stays r old mid new BudgetReached k = recorded-stays (old.names r.bios) r mid new 2 0 k
+record-stays r old mid new (BadWord number) k = k
+record-stays r old mid new WordsMissing k = k
+record-stays r old mid new (CannotOpen role) k = k
+record-stays r old mid new CannotRead k = k
+record-stays r old mid new ConsoleFailed k = k
+record-stays r old mid new LogFailed k = k
+record-stays r old mid new LogUnreadable k = k
+record-stays r old mid new (BadFirmware rule) k = k
+record-stays r old mid new RecordingStopped k = k
+record-stays r old mid new (HeaderRefused offset) k = k
+record-stays r old mid new (LogRefused refusal) k = k
+record-stays r old mid new (ImagesDiffer which) k = k
+record-stays r old mid new LogTooLong k = k
+record-stays r old mid new NoMemory k = k
+
+replay-stays : (r : Replaying) (log : Option (List ℕ)) (old mid new : Ledger) (F : Type 0) (outcome : Outcome)
+    → ReplayCause r log old mid F outcome → ReplayCause r log old (said mid new) F outcome
+replay-stays r log old mid new F Printed k = k
+replay-stays r log old mid new F (GuestEnded code) k = replayed-stays log (old.names r.bios) r mid new 0 code k
+replay-stays r log old mid new F IdleForEver k = replayed-stays log (old.names r.bios) r mid new 1 0 k
+replay-stays r log old mid new F BudgetReached k = replayed-stays log (old.names r.bios) r mid new 2 0 k
+replay-stays r log old mid new F (BadWord number) k = k
+replay-stays r log old mid new F WordsMissing k = k
+replay-stays r log old mid new F (CannotOpen role) k = k
+replay-stays r log old mid new F CannotRead k = k
+replay-stays r log old mid new F ConsoleFailed k = k
+replay-stays r log old mid new F LogFailed k = k
+replay-stays r log old mid new F LogUnreadable k = k
+replay-stays r log old mid new F (BadFirmware rule) k = k
+replay-stays r log old mid new F RecordingStopped k = replayed-stays log (old.names r.bios) r mid new 3 0 k
+replay-stays r log old mid new F (HeaderRefused offset) k = k
+replay-stays r log old mid new F (LogRefused refusal) k = refused-stays log (old.names r.bios) r mid new refusal k
+replay-stays r log old mid new F (ImagesDiffer which) k = k
+replay-stays r log old mid new F LogTooLong k = k
+replay-stays r log old mid new F NoMemory k = k
+
+print-stays : (r : Reading) (old mid new : Ledger) (outcome : Outcome) → (IsPrinted r mid → IsPrinted r (said mid new))
+    → PrintCause r old mid outcome → PrintCause r old (said mid new) outcome
+print-stays r old mid new Printed f k = f k
+print-stays r old mid new (GuestEnded code) f k = k
+print-stays r old mid new IdleForEver f k = k
+print-stays r old mid new BudgetReached f k = k
+print-stays r old mid new (BadWord number) f k = k
+print-stays r old mid new WordsMissing f k = k
+print-stays r old mid new (CannotOpen role) f k = k
+print-stays r old mid new CannotRead f k = k
+print-stays r old mid new ConsoleFailed f k = k
+print-stays r old mid new LogFailed f k = k
+print-stays r old mid new LogUnreadable f k = k
+print-stays r old mid new (BadFirmware rule) f k = k
+print-stays r old mid new RecordingStopped f k = k
+print-stays r old mid new (HeaderRefused offset) f k = k
+print-stays r old mid new (LogRefused refusal) f k = k
+print-stays r old mid new (ImagesDiffer which) f k = k
+print-stays r old mid new LogTooLong f k = k
+print-stays r old mid new NoMemory f k = k
 
 cause-stays : (r : Reading) (old mid new : Ledger) (outcome : Outcome) → Cause r old mid outcome → Cause r old (said mid new) outcome
-cause-stays r old mid new Printed k = printed-stays r mid new k
-cause-stays r old mid new (GuestEnded code) k = ended-stays r old mid new 0 code k
-cause-stays r old mid new IdleForEver k = ended-stays r old mid new 1 0 k
-cause-stays r old mid new BudgetReached k = ended-stays r old mid new 2 0 k
-cause-stays r old mid new (BadWord number) k = k
-cause-stays r old mid new WordsMissing k = k
-cause-stays r old mid new (CannotOpen role) k = k
-cause-stays r old mid new CannotRead k = k
-cause-stays r old mid new ConsoleFailed k = k
-cause-stays r old mid new LogFailed k = k
-cause-stays r old mid new (BadFirmware rule) k = k
-cause-stays r old mid new NoMemory k = tt
+cause-stays (Records r) old mid new outcome k = record-stays r old mid new outcome k
+cause-stays (Replays r) old mid new outcome k =
+    replay-stays r (old.names r.log) old mid new (Rose (at old.faults LogIn) (at mid.faults LogIn)) outcome k
+cause-stays Help old mid new outcome k = print-stays Help old mid new outcome (λ p. p) k
+cause-stays Version old mid new outcome k = print-stays Version old mid new outcome (λ p. p) k
+cause-stays (Bad n) old mid new outcome k = k
+cause-stays Early old mid new outcome k = k
+
+no-memory : (r : Reading) (old new : Ledger) → Cause r old new NoMemory
+no-memory (Records r) old new = tt
+no-memory (Replays r) old new = tt
+no-memory Help old new = tt
+no-memory Version old new = tt
+no-memory (Bad n) old new = inr refl
+no-memory Early old new = inr refl
 
 told-cause : (r : Reading) (old mid new : Ledger) (outcome told : Outcome) → new ≡ said mid new
     → (told ≡ outcome) ⊎ (told ≡ NoMemory) → Cause r old mid outcome → Cause r old new told
 told-cause r old mid new outcome told same (inl e) k =
     subst (λ (z : Outcome). Cause r old new z) (sym e)
     (subst (λ (z : Ledger). Cause r old z outcome) (sym same) (cause-stays r old mid new outcome k))
-told-cause r old mid new outcome told same (inr e) k = subst (λ (z : Outcome). Cause r old new z) (sym e) tt
+told-cause r old mid new outcome told same (inr e) k = subst (λ (z : Outcome). Cause r old new z) (sym e) (no-memory r old new)
 
 pub told-explained : (words : List (List ℕ)) (line r : Reading) (old mid new : Ledger) (outcome told : Outcome) (status : ℕ) → line ≡ r
     → mid ≡ only_run old mid → new ≡ said mid new → (told ≡ outcome) ⊎ (told ≡ NoMemory) → Cause line old mid outcome
@@ -102,41 +210,11 @@ told-log line r old mid new e same logged more =
     subst (λ (z : Reading). IfRecords z old (λ words file. IsLogged words file new)) e
     (subst (λ (z : Ledger). IfRecords line old (λ words file. IsLogged words file z)) (sym same) (logs-stay line old mid new told))
 
-some-rule : (o : Option (List ℕ)) (r : Recording) (rule : LoadError) → IfSome o (λ file. IsBadFirmware file r.ram_mib rule)
-    → IfSome o (λ file. (x : LoadError) × IsBadFirmware file r.ram_mib x)
-some-rule None r rule k = tt
-some-rule (Some file) r rule k = (rule, k)
-
-a-rule : (r : Reading) (old : Ledger) (rule : LoadError) → IfRecords r old (λ words file. IsBadFirmware file words.ram_mib rule)
-    → IfRecords r old (λ words file. (x : LoadError) × IsBadFirmware file words.ram_mib x)
-a-rule (Records words) old rule k = some-rule (old.names words.bios) words rule k
-a-rule Help old rule k = tt
-a-rule Version old rule k = tt
-a-rule (Bad n) old rule k = tt
-a-rule Early old rule k = tt
-
-ended-status : (b : Bool) → ◌≡◌ {A = ℕ} (if b then 0 else 10) 8 → ⊥
-ended-status true e = absurd cc
-ended-status false e = absurd cc
-
-bad-firmware : (r : Reading) (old new : Ledger) (outcome : Outcome) → Cause r old new outcome → status_of outcome ≡ 8
-    → IfRecords r old (λ words file. (x : LoadError) × IsBadFirmware file words.ram_mib x)
-bad-firmware r old new (BadFirmware rule) k e = a-rule r old rule k.1
-bad-firmware r old new (GuestEnded code) k e = absurd (ended-status (code == 0) e)
-bad-firmware r old new outcome k e = absurd cc
-
-pub bad-firmware-told : (words : List (List ℕ)) (r : Reading) (old new : Ledger) (status : ℕ) → Explained words r old new status → status ≡ 8
-    → IfRecords r old (λ words file. (x : LoadError) × IsBadFirmware file words.ram_mib x)
-bad-firmware-told words r old new status x e = bad-firmware r old new x.outcome x.cause (sym x.is_status ∙ e)
-
-not-zero : (code : ℕ) → status_of (GuestEnded code) ≡ 10 → code ≡ 0 → ⊥
-not-zero code e zero = (let z : ◌≡◌ {A = ℕ} 10 0 = sym e ∙ ap (λ (n : ℕ). status_of (GuestEnded n)) zero in absurd cc)
-
-guest-ended : (r : Reading) (old new : Ledger) (outcome : Outcome) → Cause r old new outcome → status_of outcome ≡ 10
-    → (code : ℕ) × (code ≡ 0 → ⊥) × IsEnded r old new 0 code
-guest-ended r old new (GuestEnded code) k e = (code, not-zero code e, k)
-guest-ended r old new outcome k e = absurd cc
-
-pub guest-ended-told : (words : List (List ℕ)) (r : Reading) (old new : Ledger) (status : ℕ) → Explained words r old new status → status ≡ 10
-    → (code : ℕ) × (code ≡ 0 → ⊥) × IsEnded r old new 0 code
-guest-ended-told words r old new status x e = guest-ended r old new x.outcome x.cause (sym x.is_status ∙ e)
+pub told-shown : (line r : Reading) (old mid new : Ledger) → line ≡ r → new ≡ said mid new
+    → (at old.opened ConsoleOut < at mid.opened ConsoleOut → IfReplays line old (λ words log file. IsShown words log file mid))
+    → at old.opened ConsoleOut < at new.opened ConsoleOut → IfReplays r old (λ words log file. IsShown words log file new)
+told-shown line r old mid new e same shows more =
+    let opened : at new.opened ConsoleOut ≡ at mid.opened ConsoleOut = ap (λ (l : Ledger). at l.opened ConsoleOut) same in
+    let told = shows (subst (λ (z : ℕ). at old.opened ConsoleOut < z) opened more) in
+    subst (λ (z : Reading). IfReplays z old (λ words log file. IsShown words log file new)) e
+    (subst (λ (z : Ledger). IfReplays line old (λ words log file. IsShown words log file z)) (sym same) (shows-stay line old mid new told))

@@ -1,17 +1,20 @@
 -- What the top call answers, by its causes in the ledgers before and after.
-use Rattle.std.specs.Prelude.{◌≡◌, ◌⊎◌, ◌<◌, ℕ, ⊤, List, [], Some, IfSome}
+use Rattle.std.specs.Prelude.{◌≡◌, ◌⊎◌, ◌<◌, ◌^◌, ℕ, ⊤, List, [], length, ◌==◌, Some, None, IfSome, if◌then◌else◌}
+use Rattle.std.specs.declared.option.Option.{Option}
 use Rattle.outside.specs.Causes.{Rose, Stood}
 use Rattle.outside.specs.Ledger.{Ledger}
 use Rattle.outside.specs.Told.{Takes, TakesFront}
 use Rattle.outside.specs.Roles.{at}
-use Rattle.outside.specs.declared.roles.Role.TheVariants.{ConsoleOut, LogOut, Firmware, Messages}
-use Rattle.command_line.specs.Words.{Recording, Reading, Records, Help, Version, Bad, Early}
+use Rattle.outside.specs.declared.roles.Role.TheVariants.{ConsoleOut, LogIn, LogOut, Firmware, Messages}
+use Rattle.command_line.specs.Words.{Recording, Replaying, Reading, Records, Replays, Help, Version, Bad, Early}
+use Rattle.event_log.specs.declared.header.Header.{Header}
 use Rattle.rrvm.specs.declared.outcome.Outcome.{Outcome}
-use Rattle.rrvm.specs.declared.outcome.Outcome.TheVariants.{Printed, GuestEnded, IdleForEver, BudgetReached, BadWord, WordsMissing, CannotOpen, CannotRead, ConsoleFailed, LogFailed, BadFirmware, NoMemory}
+use Rattle.rrvm.specs.declared.outcome.Outcome.TheVariants.{Printed, GuestEnded, IdleForEver, BudgetReached, BadWord, WordsMissing, CannotOpen, CannotRead, ConsoleFailed, LogFailed, LogUnreadable, BadFirmware, RecordingStopped, HeaderRefused, LogRefused, ImagesDiffer, LogTooLong, NoMemory}
 use Rattle.rrvm.specs.declared.printing.TheConstants.{HELP, VERSION}
 use Rattle.rrvm.specs.Outcomes.{status_of}
 use Rattle.rrvm.specs.Firmwares.{IsBadFirmware}
 use Rattle.rrvm.specs.Recordings.{IsRecorded, IsGood}
+use Rattle.rrvm.specs.Replays.{HasHeader, IsBadHeader, word_difference, IsBadImage, IsStarted, IsReplayed, IsRefusedLog, IsDifferent}
 use Rattle.rrvm.specs.Messages.{line_of}
 
 -- what holds where the words ask for a recording of a file that tells its bytes
@@ -19,10 +22,20 @@ abbrev pub IfRecords : Reading → Ledger → (Recording → List ℕ → Type 0
 IfRecords (Records r) l P = IfSome (l.names r.bios) (λ file. P r file)
 IfRecords other l P = ⊤
 
--- the words ask for a recording
-abbrev pub Asks : Reading → Type 0
-Asks (Records r) = ⊤
-Asks other = ⊥
+-- what holds where both tell their bytes
+abbrev pub IfBoth : Option (List ℕ) → Option (List ℕ) → (List ℕ → List ℕ → Type 0) → Type 0
+IfBoth (Some xs) (Some ys) P = P xs ys
+IfBoth xs ys P = ⊤
+
+-- what holds where the words ask for a replay of a log and a file that tell their bytes
+abbrev pub IfReplays : Reading → Ledger → (Replaying → List ℕ → List ℕ → Type 0) → Type 0
+IfReplays (Replays r) l P = IfBoth (l.names r.log) (l.names r.bios) (λ log file. P r log file)
+IfReplays other l P = ⊤
+
+-- the words ask for a replay
+abbrev pub AsksReplay : Reading → Type 0
+AsksReplay (Replays r) = ⊤
+AsksReplay other = ⊥
 
 -- The words ask for a text, which was printed.
 abbrev pub IsPrinted : Reading → Ledger → Type 0
@@ -30,28 +43,82 @@ IsPrinted Help l = Takes (Some []) (at l.last ConsoleOut) HELP.now
 IsPrinted Version l = Takes (Some []) (at l.last ConsoleOut) VERSION.now
 IsPrinted other l = ⊥
 
--- The machine's run ended by this reason and code, and its log is whole.
+-- The machine's run ended by this reason and code: of a recording, whose log is whole, or of a
+-- replay, whose log was accepted whole.
 abbrev pub IsEnded : Reading → Ledger → Ledger → ℕ → ℕ → Type 0
-IsEnded r old new reason code =
-    Asks r × IfRecords r old (λ words file. IsRecorded words file new reason code)
+IsEnded (Records r) old new reason code =
+    IfSome (old.names r.bios) (λ file. IsRecorded r file new reason code)
+IsEnded (Replays r) old new reason code =
+    IfBoth (old.names r.log) (old.names r.bios) (λ log file. IsReplayed r log file new reason code)
+IsEnded other old new reason code = ⊥
+
+-- when a recording has an outcome
+abbrev pub RecordCause : Recording → Ledger → Ledger → Outcome → Type 0
+RecordCause r old new (GuestEnded code) = IsEnded (Records r) old new 0 code
+RecordCause r old new IdleForEver = IsEnded (Records r) old new 1 0
+RecordCause r old new BudgetReached = IsEnded (Records r) old new 2 0
+RecordCause r old new (CannotOpen role) = Rose old.opening_faults new.opening_faults
+RecordCause r old new CannotRead = Rose (at old.faults Firmware) (at new.faults Firmware)
+RecordCause r old new ConsoleFailed =
+    Rose (at old.faults ConsoleOut) (at new.faults ConsoleOut)
+    × IfSome (old.names r.bios) (λ file. IsGood r file)
+RecordCause r old new LogFailed =
+    Rose (at old.faults LogOut) (at new.faults LogOut)
+    × IfSome (old.names r.bios) (λ file. IsGood r file)
+RecordCause r old new (BadFirmware rule) =
+    IfSome (old.names r.bios) (λ file. IsBadFirmware file r.ram_mib rule)
+RecordCause r old new NoMemory = ⊤
+RecordCause r old new other = ⊥
+
+-- When a replay of a log that holds these bytes has an outcome, where the last condition says that
+-- the log's source failed.
+abbrev pub ReplayCause :
+    Replaying → Option (List ℕ) → Ledger → Ledger → Type 0 → Outcome → Type 0
+ReplayCause r log old new failed (GuestEnded code) =
+    IfBoth log (old.names r.bios) (λ bytes file. IsReplayed r bytes file new 0 code)
+ReplayCause r log old new failed IdleForEver =
+    IfBoth log (old.names r.bios) (λ bytes file. IsReplayed r bytes file new 1 0)
+ReplayCause r log old new failed BudgetReached =
+    IfBoth log (old.names r.bios) (λ bytes file. IsReplayed r bytes file new 2 0)
+ReplayCause r log old new failed RecordingStopped =
+    IfBoth log (old.names r.bios) (λ bytes file. IsReplayed r bytes file new 3 0)
+ReplayCause r log old new failed (CannotOpen role) = Rose old.opening_faults new.opening_faults
+ReplayCause r log old new failed CannotRead = Rose (at old.faults Firmware) (at new.faults Firmware)
+ReplayCause r log old new failed ConsoleFailed =
+    Rose (at old.faults ConsoleOut) (at new.faults ConsoleOut)
+    × IfBoth log (old.names r.bios) (λ bytes file. IsStarted r bytes file)
+ReplayCause r log old new failed LogUnreadable = failed
+ReplayCause r log old new failed (BadFirmware rule) =
+    IfBoth log (old.names r.bios) (λ bytes file.
+    (h : Header) × HasHeader bytes h × (word_difference r h ≡ None) × IsBadImage h file rule)
+ReplayCause r log old new failed (HeaderRefused offset) =
+    IfSome log (λ bytes. IsBadHeader bytes offset)
+ReplayCause r log old new failed (LogRefused refusal) =
+    IfBoth log (old.names r.bios) (λ bytes file. IsRefusedLog r bytes file new refusal)
+ReplayCause r log old new failed (ImagesDiffer which) =
+    IfSome log (λ bytes. (h : Header) × HasHeader bytes h
+    × IsDifferent r h (old.names r.bios) which)
+ReplayCause r log old new failed LogTooLong = IfSome log (λ bytes. 2 ^ 40 < length bytes)
+ReplayCause r log old new failed NoMemory = ⊤
+ReplayCause r log old new failed other = ⊥
+
+-- when a text that stands alone has an outcome
+abbrev pub PrintCause : Reading → Ledger → Ledger → Outcome → Type 0
+PrintCause r old new Printed = IsPrinted r new
+PrintCause r old new ConsoleFailed = Rose (at old.faults ConsoleOut) (at new.faults ConsoleOut)
+PrintCause r old new NoMemory = ⊤
+PrintCause r old new other = ⊥
 
 -- when an outcome comes
 abbrev pub Cause : Reading → Ledger → Ledger → Outcome → Type 0
-Cause r old new Printed = IsPrinted r new
-Cause r old new (GuestEnded code) = IsEnded r old new 0 code
-Cause r old new IdleForEver = IsEnded r old new 1 0
-Cause r old new BudgetReached = IsEnded r old new 2 0
-Cause r old new (BadWord number) = r ≡ Bad number
-Cause r old new WordsMissing = r ≡ Early
-Cause r old new (CannotOpen role) = Asks r × Rose old.opening_faults new.opening_faults
-Cause r old new CannotRead = Asks r × Rose (at old.faults Firmware) (at new.faults Firmware)
-Cause r old new ConsoleFailed =
-    Rose (at old.faults ConsoleOut) (at new.faults ConsoleOut) × IfRecords r old IsGood
-Cause r old new LogFailed =
-    Asks r × Rose (at old.faults LogOut) (at new.faults LogOut) × IfRecords r old IsGood
-Cause r old new (BadFirmware rule) =
-    Asks r × IfRecords r old (λ words file. IsBadFirmware file words.ram_mib rule)
-Cause r old new NoMemory = ⊤
+Cause (Records r) old new outcome = RecordCause r old new outcome
+Cause (Replays r) old new outcome =
+    ReplayCause r (old.names r.log) old new (Rose (at old.faults LogIn) (at new.faults LogIn))
+    outcome
+Cause Help old new outcome = PrintCause Help old new outcome
+Cause Version old new outcome = PrintCause Version old new outcome
+Cause (Bad k) old new outcome = (outcome ≡ BadWord k) ⊎ (outcome ≡ NoMemory)
+Cause Early old new outcome = (outcome ≡ WordsMissing) ⊎ (outcome ≡ NoMemory)
 
 -- The status, what it came by, and what the messages took: a front of the status's line, and all of
 -- it where the messages counted no fault and memory wasn't refused.
@@ -65,11 +132,13 @@ pub record Explained (words : List (List ℕ)) (r : Reading) (old new : Ledger) 
   pub all_said : (status ≡ 30 → ⊥) → Stood (at old.faults Messages) (at new.faults Messages)
       → Takes (Some []) (at new.last Messages) (line_of words r outcome)
 
--- what holds where the machine ran to an end of its own
+-- what holds where the machine ran to an end, or to the log's first wrong event
 abbrev pub IfRan : Outcome → Type 0 → Type 0
 IfRan (GuestEnded code) P = P
 IfRan IdleForEver P = P
 IfRan BudgetReached P = P
+IfRan RecordingStopped P = P
+IfRan (LogRefused refusal) P = P
 IfRan other P = ⊤
 
 -- the words leave the grammar
@@ -81,3 +150,11 @@ IsWordFault other = ⊥
 -- the statuses of a machine that ran to an end of its own
 abbrev pub HasRun : ℕ → Type 0
 HasRun status = (status ≡ 0) ⊎ ((status ≡ 10) ⊎ ((status ≡ 12) ⊎ (status ≡ 13)))
+
+-- the status of a replay whose log ends by this reason and code
+abbrev pub ending_status : ℕ → ℕ → ℕ
+ending_status reason code =
+    if reason == 0 then (if code == 0 then 0 else 10)
+    else if reason == 1 then 12
+    else if reason == 2 then 13
+    else 14

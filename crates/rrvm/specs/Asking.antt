@@ -3,8 +3,17 @@ use Rattle.std.specs.Prelude.{ℕ, List, [], ◌==◌, if◌then◌else◌}
 use Rattle.sha2.specs.Sha256.{sha256}
 use Rattle.outside.specs.declared.roles.Role.TheVariants.{Firmware, LogOut}
 use Rattle.command_line.specs.declared.line.RecordWords.{RecordWords}
-use Rattle.command_line.specs.Words.{Recording}
+use Rattle.command_line.specs.declared.line.ReplayWords.{ReplayWords}
+use Rattle.command_line.specs.Words.{Recording, Replaying}
+use Rattle.event_log.specs.declared.parse.ParseError.TheVariants as parse
+use Rattle.event_log.specs.declared.stream_error.StreamError.{StreamError}
+use Rattle.event_log.specs.declared.stream_error.StreamError.TheVariants as stream
+use Rattle.rr_engine.specs.declared.replaying.ReplayEnd.{ReplayEnd}
+use Rattle.rr_engine.specs.declared.replaying.ReplayEnd.TheVariants as replay_end
+use Rattle.rrvm.specs.declared.images.ImageFault.{ImageFault}
+use Rattle.rrvm.specs.declared.images.ImageFault.TheVariants as image
 use Rattle.event_log.specs.declared.header.Header.{Header}
+use Rattle.rrvm.specs.declared.difference.Difference.TheVariants as difference
 use Rattle.rrvm.specs.declared.outcome.Outcome.{Outcome}
 use Rattle.rrvm.specs.declared.outcome.Outcome.TheVariants as outcome
 use Rattle.rrvm.specs.declared.firmware.FirmwareFault.{FirmwareFault}
@@ -50,3 +59,42 @@ ending_outcome_of ends.CannotOpenLog = outcome.CannotOpen LogOut
 ending_outcome_of ends.ConsoleFailed = outcome.ConsoleFailed
 ending_outcome_of ends.LogFailed = outcome.LogFailed
 ending_outcome_of ends.NoMemory = outcome.NoMemory
+
+-- what the words of a replay ask for
+abbrev pub replay_asked : ReplayWords → Replaying
+replay_asked w = record { shift = w.shift; ram_mib = w.ram_mib; log = w.log.now; bios = w.bios.now }
+
+-- why no header was read
+abbrev pub header_outcome_of : StreamError → Outcome
+header_outcome_of (stream.Parse (parse.Bad offset rule)) = outcome.HeaderRefused offset
+header_outcome_of (stream.Parse (parse.Cut offset)) = outcome.HeaderRefused offset
+header_outcome_of (stream.Parse parse.NoMemory) = outcome.NoMemory
+header_outcome_of stream.Failed = outcome.LogUnreadable
+header_outcome_of stream.TooLong = outcome.LogTooLong
+header_outcome_of stream.NoMemory = outcome.NoMemory
+
+-- why the firmware's file isn't the image
+abbrev pub image_outcome_of : ImageFault → Outcome
+image_outcome_of image.CannotOpen = outcome.CannotOpen Firmware
+image_outcome_of image.CannotRead = outcome.CannotRead
+image_outcome_of image.OtherFirmware = outcome.ImagesDiffer difference.Firmware
+image_outcome_of (image.Bad rule) = outcome.BadFirmware rule
+image_outcome_of image.OtherDiskLength = outcome.ImagesDiffer difference.DiskLength
+image_outcome_of image.OtherDisk = outcome.ImagesDiffer difference.Disk
+image_outcome_of image.NoMemory = outcome.NoMemory
+
+-- how a log that was accepted ended
+abbrev pub accepted_outcome_of : ℕ → ℕ → Outcome
+accepted_outcome_of reason code =
+    if reason == 0 then outcome.GuestEnded code
+    else if reason == 1 then outcome.IdleForEver
+    else if reason == 2 then outcome.BudgetReached
+    else outcome.RecordingStopped
+
+abbrev pub replay_outcome_of : ReplayEnd → Outcome
+replay_outcome_of (replay_end.End reason code) = accepted_outcome_of reason code
+replay_outcome_of replay_end.ConsoleWrite = outcome.ConsoleFailed
+replay_outcome_of replay_end.LogRead = outcome.LogUnreadable
+replay_outcome_of replay_end.LogTooLong = outcome.LogTooLong
+replay_outcome_of (replay_end.Refused refusal) = outcome.LogRefused refusal
+replay_outcome_of replay_end.NoMemory = outcome.NoMemory

@@ -4,7 +4,7 @@ use Rattle.outside.specs.Causes.{Stood}
 use Rattle.outside.specs.Ledger.{Ledger}
 use Rattle.outside.specs.Roles.{at, put}
 use Rattle.outside.specs.declared.roles.Role.{Role}
-use Rattle.outside.specs.declared.roles.Role.TheVariants.{ConsoleOut, LogOut, Firmware}
+use Rattle.outside.specs.declared.roles.Role.TheVariants.{ConsoleOut, LogIn, LogOut, Firmware}
 
 -- the old ledger with the counts and the bytes of one role from the new
 abbrev pub only : Role → Ledger → Ledger → Ledger
@@ -30,7 +30,7 @@ only_recording old new = only_shared (only LogOut (only ConsoleOut old new) new)
 
 -- the old ledger with what a run may change
 abbrev pub only_run : Ledger → Ledger → Ledger
-only_run old new = only_recording (only Firmware old new) new
+only_run old new = only LogIn (only_recording (only Firmware old new) new) new
 
 -- what was opened of a role was given back, and at most one was
 pub record Balanced (role : Role) (old new : Ledger) : Type 0 where
@@ -59,6 +59,7 @@ pub record CountsStood (old new : Ledger) : Type 0 where
   pub firmware : Stood (at old.faults Firmware) (at new.faults Firmware)
   pub console : Stood (at old.faults ConsoleOut) (at new.faults ConsoleOut)
   pub log : Stood (at old.faults LogOut) (at new.faults LogOut)
+  pub replayed_log : Stood (at old.faults LogIn) (at new.faults LogIn)
 
 -- they are what they were
 pub record CountsKept (old new : Ledger) : Type 0 where
@@ -66,3 +67,4 @@ pub record CountsKept (old new : Ledger) : Type 0 where
   pub firmware : at new.faults Firmware ≡ at old.faults Firmware
   pub console : at new.faults ConsoleOut ≡ at old.faults ConsoleOut
   pub log : at new.faults LogOut ≡ at old.faults LogOut
+  pub replayed_log : at new.faults LogIn ≡ at old.faults LogIn

@@ -4,5 +4,9 @@ pub mod Firmwares
 pub mod Endings
 pub mod Recordings
 pub mod Asking
+pub mod Texts
 pub mod Messages
+pub mod Replays
+pub mod Images
+pub mod Playing
 pub mod Answers

@@ -3,19 +3,24 @@ use Rattle.std.specs.Prelude.{ℕ, ◌==◌, ◌++◌, List, [], codes, if◌the
 use Rattle.std.specs.Fmt.{decimal}
 use Rattle.outside.specs.declared.roles.Role.{Role}
 use Rattle.outside.specs.declared.roles.Role.TheVariants.{Firmware}
-use Rattle.command_line.specs.Words.{Reading, Records}
+use Rattle.command_line.specs.Words.{Reading, Records, Replays}
 use Rattle.elf_load.specs.declared.error.LoadError.{LoadError}
 use Rattle.elf_load.specs.declared.error.LoadError.TheVariants as rule
+use Rattle.rrvm.specs.declared.difference.Difference.{Difference}
+use Rattle.rrvm.specs.declared.difference.Difference.TheVariants as difference
+use Rattle.rrvm.specs.Texts.{refusal_line}
 use Rattle.rrvm.specs.declared.outcome.Outcome.{Outcome}
-use Rattle.rrvm.specs.declared.outcome.Outcome.TheVariants.{Printed, GuestEnded, IdleForEver, BudgetReached, BadWord, WordsMissing, CannotOpen, CannotRead, ConsoleFailed, LogFailed, BadFirmware, NoMemory}
+use Rattle.rrvm.specs.declared.outcome.Outcome.TheVariants.{Printed, GuestEnded, IdleForEver, BudgetReached, BadWord, WordsMissing, CannotOpen, CannotRead, ConsoleFailed, LogFailed, LogUnreadable, BadFirmware, RecordingStopped, HeaderRefused, LogRefused, ImagesDiffer, LogTooLong, NoMemory}
 
 -- the names that the words give
 abbrev pub bios_name : Reading → List ℕ
 bios_name (Records r) = r.bios
+bios_name (Replays r) = r.bios
 bios_name other = []
 
 abbrev pub log_name : Reading → List ℕ
 log_name (Records r) = r.log
+log_name (Replays r) = r.log
 log_name other = []
 
 -- the file of a role
@@ -38,6 +43,14 @@ rule_name rule.File = codes "file"
 rule_name rule.Memory = codes "memory"
 rule_name rule.NoMemory = codes "nomemory"
 
+-- what differs from the log's header
+abbrev pub difference_name : Difference → List ℕ
+difference_name difference.Shift = codes "shift"
+difference_name difference.Ram = codes "ram"
+difference_name difference.Firmware = codes "firmware"
+difference_name difference.DiskLength = codes "disk length"
+difference_name difference.Disk = codes "disk"
+
 -- the word of a number, counted from 0
 abbrev pub word_of : List (List ℕ) → ℕ → List ℕ
 word_of words number = unwrap_or (slice_get words number) []
@@ -59,4 +72,12 @@ line_of words r ConsoleFailed = codes "rrvm: console output failed\n"
 line_of words r LogFailed = codes "rrvm: log output failed\n"
 line_of words r (BadFirmware broken) =
     codes "rrvm: bad firmware: " ++ rule_name broken ++ codes "\n"
+line_of words r LogUnreadable = codes "rrvm: log input failed\n"
+line_of words r RecordingStopped = codes "rrvm: recording was stopped\n"
+line_of words r (HeaderRefused offset) =
+    codes "rrvm: log refused: header at " ++ decimal offset ++ codes "\n"
+line_of words r (LogRefused refusal) = refusal_line refusal
+line_of words r (ImagesDiffer which) =
+    codes "rrvm: images differ: " ++ difference_name which ++ codes "\n"
+line_of words r LogTooLong = codes "rrvm: log too long\n"
 line_of words r NoMemory = codes "rrvm: no memory\n"

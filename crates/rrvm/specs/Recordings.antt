@@ -1,10 +1,10 @@
 -- What the words ask to record, and what a recording of it writes.
-use Rattle.std.specs.Prelude.{◌≡◌, ◌≤◌, ◌^◌, ℕ, List, [], length, Some, IfSome, Ok}
+use Rattle.std.specs.Prelude.{◌≡◌, ◌≤◌, ℕ, List, [], length, Some, IfSome, Ok}
 use Rattle.sha2.specs.Sha256.{sha256}
 use Rattle.outside.specs.Ledger.{Ledger}
 use Rattle.outside.specs.Roles.{at}
 use Rattle.outside.specs.declared.roles.Role.TheVariants.{ConsoleOut, LogOut}
-use Rattle.command_line.specs.Words.{Recording, Reading, Records}
+use Rattle.command_line.specs.Words.{Recording}
 use Rattle.elf_load.specs.declared.pieces.Loaded.{Loaded}
 use Rattle.elf_load.specs.Load.{loaded}
 use Rattle.event_log.specs.declared.header.Header.{Header}
@@ -58,14 +58,3 @@ pub record IsGood (r : Recording) (file : List ℕ) : Type 0 where
   pub firmware : Loaded
   pub loads : loaded file r.ram_mib ≡ Ok firmware
   pub fits : length file ≤ FIRMWARE_LIMIT
-
--- what words can ask to record
-pub record IsInRange (r : Recording) : Type 0 where
-  pub shift : r.shift ≤ 10
-  pub ram_mib : (1 ≤ r.ram_mib) × (r.ram_mib ≤ 64)
-  pub slice : (1 ≤ r.slice) × (r.slice ≤ 65536)
-  pub budget : (1 ≤ r.budget) × (r.budget ≤ 2 ^ 40)
-
-abbrev pub IsLineInRange : Reading → Type 0
-IsLineInRange (Records r) = IsInRange r
-IsLineInRange other = Unit {0}

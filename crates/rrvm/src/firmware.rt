@@ -61,6 +61,55 @@ fn firmware_of(alloc: Global, file: &[u8], ram_mib: u32) -> Result<Firmware, Fir
     }
 }
 
+/// Why a file wasn't read.
+#[derive(Clone, Copy, Debug, PartialEq, Eq)]
+pub(crate) enum FileFault {
+    CannotOpen,
+    CannotRead,
+    /// It is above the limit.
+    TooLong,
+    NoMemory,
+}
+
+/// Reads a firmware's file whole.
+pub(crate) fn read_file<W: World>(
+    alloc: Global,
+    name: &str,
+    world: &mut W,
+) -> Result<Vec<u8>, FileFault>
+    ensures whole { IfOk result (λ v. IfSome ((W.ledger world.old).names name.now)
+        (λ file. v.items ≡ file)) }
+    ensures short { IfOk result (λ v. length v.items ≤ FIRMWARE_LIMIT) }
+    ensures kept { OnOk result (CountsSame (W.ledger world.old) (W.ledger world.new)) }
+
+    ensures long { IsErrOf result FileFault.TooLong → IfSome ((W.ledger world.old).names name.now)
+        (λ file. FIRMWARE_LIMIT < length file) }
+    ensures unopened { IsErrOf result FileFault.CannotOpen
+        → Rose (W.ledger world.old).opening_faults (W.ledger world.new).opening_faults }
+    ensures unread { IsErrOf result FileFault.CannotRead
+        → Rose (at (W.ledger world.old).faults FirmwareRole)
+        (at (W.ledger world.new).faults FirmwareRole) }
+
+    ensures balanced { Balanced FirmwareRole (W.ledger world.old) (W.ledger world.new) }
+    ensures rest { W.ledger world.new
+        ≡ record (only FirmwareRole (W.ledger world.old) (W.ledger world.new))
+        { opening_faults = (W.ledger world.new).opening_faults } }
+{
+    let mut source = match world.source(Role::Firmware, Some(name)) {
+        Ok(source) => source,
+        Err(OpenError::Failed) => return Err(FileFault::CannotOpen),
+        Err(OpenError::NoMemory) => return Err(FileFault::NoMemory),
+    };
+    let answer = read_all(alloc, &mut source, FIRMWARE_LIMIT);
+    world.take_source(Role::Firmware, source);
+    match answer {
+        Ok(file) => Ok(file),
+        Err(ReadError::Failed) => Err(FileFault::CannotRead),
+        Err(ReadError::TooLong) => Err(FileFault::TooLong),
+        Err(ReadError::NoMemory) => Err(FileFault::NoMemory),
+    }
+}
+
 /// Reads a firmware's file and loads it for a RAM of so many MiB.
 pub(crate) fn read_firmware<W: World>(
     alloc: Global,
@@ -86,17 +135,11 @@ pub(crate) fn read_firmware<W: World>(
         ≡ record (only FirmwareRole (W.ledger world.old) (W.ledger world.new))
         { opening_faults = (W.ledger world.new).opening_faults } }
 {
-    let mut source = match world.source(Role::Firmware, Some(name)) {
-        Ok(source) => source,
-        Err(OpenError::Failed) => return Err(FirmwareFault::CannotOpen),
-        Err(OpenError::NoMemory) => return Err(FirmwareFault::NoMemory),
-    };
-    let answer = read_all(alloc, &mut source, FIRMWARE_LIMIT);
-    world.take_source(Role::Firmware, source);
-    match answer {
+    match read_file(alloc, name, world) {
         Ok(file) => firmware_of(alloc, &file, ram_mib),
-        Err(ReadError::Failed) => Err(FirmwareFault::CannotRead),
-        Err(ReadError::TooLong) => Err(FirmwareFault::Bad(LoadError::TooLong)),
-        Err(ReadError::NoMemory) => Err(FirmwareFault::NoMemory),
+        Err(FileFault::CannotOpen) => Err(FirmwareFault::CannotOpen),
+        Err(FileFault::CannotRead) => Err(FirmwareFault::CannotRead),
+        Err(FileFault::TooLong) => Err(FirmwareFault::Bad(LoadError::TooLong)),
+        Err(FileFault::NoMemory) => Err(FirmwareFault::NoMemory),
     }
 }

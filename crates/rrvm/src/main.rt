@@ -1,18 +1,22 @@
-//! rrvm records one run of a RISC-V machine in a log.
+//! rrvm records one run of a RISC-V machine in a log, and replays it.
 //!
 //! `rrvm_main` is the whole program over a world of devices, with its theorem; `main` calls it over
 //! the host.
 #![tactic(auto)]
 
+mod difference;
 mod firmware;
+mod images;
 mod message;
 mod outcome;
 mod printing;
 mod read_all;
 mod recording;
+mod replaying;
 mod run;
 #[cfg(test)]
 mod tests;
+mod texts;
 mod top;
 
 use outside::HostWorld;

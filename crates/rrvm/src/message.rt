@@ -3,9 +3,11 @@
 ghost use Rattle.std.specs.Prelude.{◌≡◌, ◌++◌, IfOk, map, string_bytes, codes};
 ghost use Rattle.std.specs.Fmt.{decimal};
 ghost use Rattle.command_line.specs.Line.{seen_line};
-ghost use Rattle.rrvm.specs.Messages.{bios_name, log_name, file_name, rule_name, word_of, line_of};
+ghost use Rattle.rrvm.specs.Messages.{bios_name, log_name, file_name, rule_name, difference_name, word_of, line_of};
 
+use crate::difference::Difference;
 use crate::outcome::Outcome;
+use crate::texts::refusal_line;
 use command_line::Line;
 use elf_load::LoadError;
 use outside::Role;
@@ -16,6 +18,7 @@ fn bios<'a>(line: &Line<'a>) -> &'a str
 {
     match line {
         Line::Record(words) => words.bios,
+        Line::Replay(words) => words.bios,
         _ => "",
     }
 }
@@ -25,6 +28,7 @@ fn log<'a>(line: &Line<'a>) -> &'a str
 {
     match line {
         Line::Record(words) => words.log,
+        Line::Replay(words) => words.log,
         _ => "",
     }
 }
@@ -59,6 +63,19 @@ fn rule_name(rule: LoadError) -> &'static str
     }
 }
 
+/// What differs, in words.
+fn difference_name(difference: Difference) -> &'static str
+    ensures { result.now ≡ difference_name difference }
+{
+    match difference {
+        Difference::Shift => "shift",
+        Difference::Ram => "ram",
+        Difference::Firmware => "firmware",
+        Difference::DiskLength => "disk length",
+        Difference::Disk => "disk",
+    }
+}
+
 fn word(words: &[String], number: usize) -> &str
     ensures { result.now ≡ word_of (map string_bytes words.now) number }
 {
@@ -75,37 +92,54 @@ fn bad_word(alloc: Global, number: usize, word: &str) -> Result<String, AllocErr
     format!(in alloc; "rrvm: bad word {number}: {word}\n")
 }
 
+fn plain(alloc: Global, text: &str) -> Result<String, AllocError>
+    ensures { IfOk result (λ s. string_bytes s ≡ text.now) }
+{
+    String::from_str(alloc, text)
+}
+
 /// The line for an outcome: nothing at status 0.
 pub(crate) fn message(
     alloc: Global,
     words: &[String],
     line: &Line<'_>,
-    outcome: Outcome,
+    outcome: &Outcome,
 ) -> Result<String, AllocError>
     ensures { IfOk result (λ s. string_bytes s
-        ≡ line_of (map string_bytes words.now) (seen_line line.now) outcome) }
+        ≡ line_of (map string_bytes words.now) (seen_line line.now) outcome.now) }
 {
     match outcome {
         Outcome::Printed | Outcome::GuestEnded(0) => Ok(String::new(alloc)),
         Outcome::GuestEnded(code) => format!(in alloc; "rrvm: guest ended with code {code}\n"),
-        Outcome::IdleForEver => String::from_str(alloc, "rrvm: idle for ever\n"),
-        Outcome::BudgetReached => String::from_str(alloc, "rrvm: budget reached\n"),
-        Outcome::BadWord(number) => bad_word(alloc, number, word(words, number)),
-        Outcome::WordsMissing => String::from_str(alloc, "rrvm: words end early\n"),
+        Outcome::IdleForEver => plain(alloc, "rrvm: idle for ever\n"),
+        Outcome::BudgetReached => plain(alloc, "rrvm: budget reached\n"),
+        Outcome::BadWord(number) => bad_word(alloc, *number, word(words, *number)),
+        Outcome::WordsMissing => plain(alloc, "rrvm: words end early\n"),
         Outcome::CannotOpen(role) => {
-            let name = file(line, role);
+            let name = file(line, *role);
             format!(in alloc; "rrvm: cannot open or read {name}\n")
         }
         Outcome::CannotRead => {
             let name = bios(line);
             format!(in alloc; "rrvm: cannot open or read {name}\n")
         }
-        Outcome::ConsoleFailed => String::from_str(alloc, "rrvm: console output failed\n"),
-        Outcome::LogFailed => String::from_str(alloc, "rrvm: log output failed\n"),
+        Outcome::ConsoleFailed => plain(alloc, "rrvm: console output failed\n"),
+        Outcome::LogFailed => plain(alloc, "rrvm: log output failed\n"),
+        Outcome::LogUnreadable => plain(alloc, "rrvm: log input failed\n"),
         Outcome::BadFirmware(rule) => {
-            let name = rule_name(rule);
+            let name = rule_name(*rule);
             format!(in alloc; "rrvm: bad firmware: {name}\n")
         }
-        Outcome::NoMemory => String::from_str(alloc, "rrvm: no memory\n"),
+        Outcome::RecordingStopped => plain(alloc, "rrvm: recording was stopped\n"),
+        Outcome::HeaderRefused(offset) => {
+            format!(in alloc; "rrvm: log refused: header at {offset}\n")
+        }
+        Outcome::LogRefused(refusal) => refusal_line(alloc, refusal),
+        Outcome::ImagesDiffer(difference) => {
+            let name = difference_name(*difference);
+            format!(in alloc; "rrvm: images differ: {name}\n")
+        }
+        Outcome::LogTooLong => plain(alloc, "rrvm: log too long\n"),
+        Outcome::NoMemory => plain(alloc, "rrvm: no memory\n"),
     }
 }

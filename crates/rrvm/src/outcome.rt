@@ -1,10 +1,12 @@
 //! How a call ended, and its status.
 
+use crate::difference::Difference;
 use elf_load::LoadError;
+use log_order::Refusal;
 use outside::Role;
 
 /// How a call ended.
-#[derive(Clone, Copy, Debug, PartialEq, Eq)]
+#[derive(Debug, Drop)]
 pub enum Outcome {
     /// The help or the version was printed.
     Printed,
@@ -23,8 +25,20 @@ pub enum Outcome {
     CannotRead,
     ConsoleFailed,
     LogFailed,
+    /// The log couldn't be read.
+    LogUnreadable,
     /// The firmware's file breaks this rule.
     BadFirmware(LoadError),
+    /// The recording was stopped by a fault of a device.
+    RecordingStopped,
+    /// The log's header isn't there, or its field at this offset is out of range.
+    HeaderRefused(u64),
+    /// The log is refused at its first wrong event.
+    LogRefused(Refusal),
+    /// The words or the images aren't those of the log's header.
+    ImagesDiffer(Difference),
+    /// The log has more than 2^40 bytes.
+    LogTooLong,
     NoMemory,
 }
 
@@ -45,7 +59,12 @@ impl Outcome {
             Outcome::CannotOpen(_) | Outcome::CannotRead => 2,
             Outcome::ConsoleFailed => 4,
             Outcome::LogFailed => 5,
+            Outcome::LogUnreadable => 6,
             Outcome::BadFirmware(_) => 8,
+            Outcome::RecordingStopped => 14,
+            Outcome::HeaderRefused(_) | Outcome::LogRefused(_) => 20,
+            Outcome::ImagesDiffer(_) => 21,
+            Outcome::LogTooLong => 22,
             Outcome::NoMemory => 30,
         }
     }

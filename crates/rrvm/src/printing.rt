@@ -15,17 +15,19 @@ pub const VERSION: &str = "rrvm 0.1\n";
 /// What `--help` prints.
 pub const HELP: &str = "\
 rrvm records one run of a RISC-V machine (RV32IMA, machine and user mode) in a
-log that a one-thread machine accepts event by event.
+log that a one-thread machine accepts event by event, and replays it.
 
 usage: rrvm -icount shift=N,rr=record,rrfile=LOG -bios FILE
             [-m MIB] [-budget T] [-slice S]
+       rrvm -icount rr=replay,rrfile=LOG[,shift=N] -bios FILE [-m MIB]
        rrvm --help | --version
 
   -icount   shift=N     one turn costs 2^N nanoseconds of the guest, 0 to 10
             rr=record   record
-            rrfile=LOG  the log, made empty first
+            rr=replay   replay the log, and refuse it at its first wrong event
+            rrfile=LOG  the log; a recording makes it empty first
   -bios     the firmware: an ELF executable for RV32, or raw bytes at 0x80000000
-  -m        RAM in MiB, 1 to 64 (16)
+  -m        RAM in MiB, 1 to 64 (16; of a replay what its log says)
   -budget   the most turns, 1 to 2^40 (1000000000)
   -slice    turns between two checkpoints, 1 to 65536 (10000)
 
@@ -33,13 +35,17 @@ The console is standard output, messages go to standard error. The guest ends
 its run by a write of 0x5555 to 0x100000, or of CODE * 65536 + 0x3333.
 
 status
-   0  the guest ended with code 0         8  bad firmware
-   1  bad words                          10  the guest ended with another code
-   2  a file can't be opened or read     12  idle for ever
-   4  console output failed              13  budget reached
-   5  log output failed                  30  no memory
+   0  the guest ended with code 0        10  the guest ended with another code
+   1  bad words                          12  idle for ever
+   2  a file can't be opened or read     13  budget reached
+   4  console output failed              14  the recording was stopped
+   5  log output failed                  20  the log is refused
+   6  log input failed                   21  the images aren't those of the log
+   8  bad firmware                       22  the log is too long
+                                         30  no memory
 
 example: rrvm -icount shift=0,rr=record,rrfile=a.log -bios letter.bin
+         rrvm -icount rr=replay,rrfile=a.log -bios letter.bin
 ";
 
 /// Why a text wasn't printed.

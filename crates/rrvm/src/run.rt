@@ -2,13 +2,13 @@
 
 ghost use Rattle.std.specs.Prelude.{◌≡◌, ◌<◌, ◌+◌, ◌^◌};
 ghost use Rattle.outside.specs.Roles.{at};
-ghost use Rattle.outside.specs.declared.roles.Role.TheVariants.{ConsoleOut, LogOut, Firmware as FirmwareRole};
-ghost use Rattle.command_line.specs.Words.{Records};
+ghost use Rattle.outside.specs.declared.roles.Role.TheVariants.{ConsoleOut, LogIn, LogOut, Firmware as FirmwareRole};
+ghost use Rattle.command_line.specs.Words.{Records, IsInRange};
 ghost use Rattle.event_log.specs.HeaderFormat.{IsHeader};
 ghost use Rattle.rrvm.specs.Ledgers.{only_run, Balanced, ClocksBalanced, CountsKept};
 ghost use Rattle.rrvm.specs.Asking.{asked, recording_header, firmware_outcome_of, ending_outcome_of};
 ghost use Rattle.rrvm.specs.Answers.{Cause, IfRecords, IfRan};
-ghost use Rattle.rrvm.specs.Recordings.{IsInRange, IsLogged};
+ghost use Rattle.rrvm.specs.Recordings.{IsLogged};
 
 use crate::firmware::{FirmwareFault, digest, read_firmware};
 use crate::outcome::Outcome;
@@ -79,6 +79,7 @@ pub(crate) fn run<W: World, L: Ledger>(
     ensures balanced_firmware { Balanced FirmwareRole (W.ledger world.old) (W.ledger world.new) }
     ensures balanced_console { Balanced ConsoleOut (W.ledger world.old) (W.ledger world.new) }
     ensures balanced_log { Balanced LogOut (W.ledger world.old) (W.ledger world.new) }
+    ensures balanced_replayed { Balanced LogIn (W.ledger world.old) (W.ledger world.new) }
     ensures balanced_clock { ClocksBalanced (W.ledger world.old) (W.ledger world.new) }
     ensures rest { W.ledger world.new ≡ only_run (W.ledger world.old) (W.ledger world.new) }
 {

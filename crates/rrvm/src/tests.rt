@@ -1,5 +1,7 @@
 //! Recordings over a world in memory: whole runs by their logs, and each cause in its place.
 
+mod replays;
+
 use crate::top::{Status, rrvm_main};
 use outside::{MemWorld, Role};
 use std::alloc::{AllocError, Global};

@@ -5,20 +5,22 @@ ghost use Rattle.outside.specs.Causes.{Rose, Stood};
 ghost use Rattle.outside.specs.Told.{Takes, TakesFront};
 ghost use Rattle.outside.specs.Roles.{at};
 ghost use Rattle.outside.specs.declared.roles.Role.{Role as ARole};
-ghost use Rattle.outside.specs.declared.roles.Role.TheVariants.{ConsoleOut, LogOut, Messages, Firmware as FirmwareRole};
-ghost use Rattle.command_line.specs.Words.{Recording, Records, IsBadLine};
+ghost use Rattle.outside.specs.declared.roles.Role.TheVariants.{ConsoleOut, LogIn, LogOut, Messages, Firmware as FirmwareRole};
+ghost use Rattle.command_line.specs.Words.{Recording, Replaying, Records, Replays, IsBadLine, IsLineInRange};
 ghost use Rattle.command_line.specs.Line.{seen_line, line_in};
 ghost use Rattle.elf_load.specs.declared.error.LoadError.{LoadError};
 ghost use Rattle.elf_load.specs.declared.error.LoadError.TheVariants as load_error;
 ghost use Rattle.rrvm.specs.Ledgers.{only, only_run, Balanced, ClocksBalanced, NoDisk, CountsKept, CountsStood};
 ghost use Rattle.rrvm.specs.Messages.{line_of};
 ghost use Rattle.rrvm.specs.Firmwares.{IsBadFirmware};
-ghost use Rattle.rrvm.specs.Recordings.{IsGood, IsLogged, IsLineInRange};
-ghost use Rattle.rrvm.specs.Answers.{Cause, Explained, IfRecords, IfRan, IsEnded, IsPrinted, IsWordFault, HasRun};
+ghost use Rattle.rrvm.specs.Recordings.{IsGood, IsLogged};
+ghost use Rattle.rrvm.specs.Replays.{IsShown, IsReplayable, IsRefusable};
+ghost use Rattle.rrvm.specs.Answers.{Cause, Explained, IfRecords, IfReplays, IfRan, IsEnded, IsPrinted, IsWordFault, HasRun, ending_status};
 
 use crate::message::message;
 use crate::outcome::Outcome;
 use crate::printing::{HELP, PrintFault, VERSION, print};
+use crate::replaying::replay;
 use crate::run::run;
 use board::Steps;
 use command_line::{Line, read_line};
@@ -76,7 +78,7 @@ fn tell<W: World>(
     ensures balanced { Balanced Messages (W.ledger world.old) (W.ledger world.new) }
     ensures rest { W.ledger world.new ≡ only Messages (W.ledger world.old) (W.ledger world.new) }
 {
-    let Ok(text) = message(alloc, words, line, outcome) else {
+    let Ok(text) = message(alloc, words, line, &outcome) else {
         return Outcome::NoMemory;
     };
     match say(text.as_str(), world) {
@@ -116,16 +118,22 @@ fn answer<W: World, L: Ledger>(
     ensures log { at (W.ledger world.old).opened LogOut < at (W.ledger world.new).opened LogOut
         → IfRecords (seen_line line.now) (W.ledger world.old)
         (λ r file. IsLogged r file (W.ledger world.new)) }
+    ensures shown { at (W.ledger world.old).opened ConsoleOut
+        < at (W.ledger world.new).opened ConsoleOut
+        → IfReplays (seen_line line.now) (W.ledger world.old)
+        (λ r bytes file. IsShown r bytes file (W.ledger world.new)) }
     ensures bad { IsBadLine (seen_line line.now) → IsWordFault result }
     ensures kept { IfRan result (CountsKept (W.ledger world.old) (W.ledger world.new)) }
     ensures balanced_firmware { Balanced FirmwareRole (W.ledger world.old) (W.ledger world.new) }
     ensures balanced_console { Balanced ConsoleOut (W.ledger world.old) (W.ledger world.new) }
     ensures balanced_log { Balanced LogOut (W.ledger world.old) (W.ledger world.new) }
+    ensures balanced_replayed { Balanced LogIn (W.ledger world.old) (W.ledger world.new) }
     ensures balanced_clock { ClocksBalanced (W.ledger world.old) (W.ledger world.new) }
     ensures rest { W.ledger world.new ≡ only_run (W.ledger world.old) (W.ledger world.new) }
 {
     match line {
         Line::Record(words) => run(alloc, words, world, steps),
+        Line::Replay(words) => replay(alloc, words, world, steps),
         Line::Help => print_alone(HELP, world),
         Line::Version => print_alone(VERSION, world),
         Line::BadWord(number) => Outcome::BadWord(*number),
@@ -148,11 +156,16 @@ fn answer_uncounted<W: World, L: Ledger>(
     ensures log { at (W.ledger world.old).opened LogOut < at (W.ledger world.new).opened LogOut
         → IfRecords (seen_line line.now) (W.ledger world.old)
         (λ r file. IsLogged r file (W.ledger world.new)) }
+    ensures shown { at (W.ledger world.old).opened ConsoleOut
+        < at (W.ledger world.new).opened ConsoleOut
+        → IfReplays (seen_line line.now) (W.ledger world.old)
+        (λ r bytes file. IsShown r bytes file (W.ledger world.new)) }
     ensures bad { IsBadLine (seen_line line.now) → IsWordFault result }
     ensures kept { IfRan result (CountsKept (W.ledger world.old) (W.ledger world.new)) }
     ensures balanced_firmware { Balanced FirmwareRole (W.ledger world.old) (W.ledger world.new) }
     ensures balanced_console { Balanced ConsoleOut (W.ledger world.old) (W.ledger world.new) }
     ensures balanced_log { Balanced LogOut (W.ledger world.old) (W.ledger world.new) }
+    ensures balanced_replayed { Balanced LogIn (W.ledger world.old) (W.ledger world.new) }
     ensures balanced_clock { ClocksBalanced (W.ledger world.old) (W.ledger world.new) }
     ensures rest { W.ledger world.new ≡ only_run (W.ledger world.old) (W.ledger world.new) }
 {
@@ -163,8 +176,8 @@ fn answer_uncounted<W: World, L: Ledger>(
 /// Does what the words ask for, over a world, and says on its messages how it ended.
 ///
 /// The words are those after the program's name. A recording opens the firmware's file, the
-/// console, the clock and the log, in this order, and gives each device back. Of several causes the
-/// one that is met first decides.
+/// console, the clock and the log, in this order; a replay the log, the firmware's file and the
+/// console. Each device is given back. Of several causes the one that is met first decides.
 pub fn rrvm_main<R: Threads + Wait + Sync + AllocGlobal, W: World>(
     rt: &R,
     words: &[String],
@@ -174,11 +187,18 @@ pub fn rrvm_main<R: Threads + Wait + Sync + AllocGlobal, W: World>(
     ensures explained { Explained (map string_bytes words.now) (line_in words.now)
         (W.ledger world.old) (W.ledger world.new) result.code }
 
-    // The log that was taken, where the firmware's file tells its bytes: a front of the header; or
-    // the header, events that the one-thread machine accepts, and a part of one event.
+    // The log that a recording wrote, where the firmware's file tells its bytes: a front of the
+    // header; or the header, events that the one-thread machine accepts, and a part of one event.
     ensures log { at (W.ledger world.old).opened LogOut < at (W.ledger world.new).opened LogOut
         → IfRecords (line_in words.now) (W.ledger world.old)
         (λ r file. IsLogged r file (W.ledger world.new)) }
+
+    // What the console of a replay took, where log and firmware tell their bytes: a front of the
+    // bytes of a part of the log that the one-thread machine accepts.
+    ensures shown { at (W.ledger world.old).opened ConsoleOut
+        < at (W.ledger world.new).opened ConsoleOut
+        → IfReplays (line_in words.now) (W.ledger world.old)
+        (λ r bytes file. IsShown r bytes file (W.ledger world.new)) }
 
     // Each status where it comes.
     ensures bad_words { result.code ≡ 1 → IsBadLine (line_in words.now) }
@@ -193,6 +213,8 @@ pub fn rrvm_main<R: Threads + Wait + Sync + AllocGlobal, W: World>(
         (at (W.ledger world.new).faults ConsoleOut) }
     ensures log_fault { result.code ≡ 5
         → Rose (at (W.ledger world.old).faults LogOut) (at (W.ledger world.new).faults LogOut) }
+    ensures replayed_fault { result.code ≡ 6
+        → Rose (at (W.ledger world.old).faults LogIn) (at (W.ledger world.new).faults LogIn) }
     ensures bad_firmware { result.code ≡ 8 → IfRecords (line_in words.now) (W.ledger world.old)
         (λ r file. (rule : LoadError) × IsBadFirmware file r.ram_mib rule) }
     ensures bad_firmware_only { (r : Recording) (file : List ℕ) (rule : LoadError)
@@ -203,6 +225,8 @@ pub fn rrvm_main<R: Threads + Wait + Sync + AllocGlobal, W: World>(
         → IsEnded (line_in words.now) (W.ledger world.old) (W.ledger world.new) 1 0 }
     ensures budget { result.code ≡ 13
         → IsEnded (line_in words.now) (W.ledger world.old) (W.ledger world.new) 2 0 }
+    ensures stopped { result.code ≡ 14
+        → IsEnded (line_in words.now) (W.ledger world.old) (W.ledger world.new) 3 0 }
     ensures guest { result.code ≡ 10 → (code : ℕ) × (code ≢ 0)
         × IsEnded (line_in words.now) (W.ledger world.old) (W.ledger world.new) 0 code }
     ensures passed { result.code ≡ 0 → IsPrinted (line_in words.now) (W.ledger world.new)
@@ -215,6 +239,22 @@ pub fn rrvm_main<R: Threads + Wait + Sync + AllocGlobal, W: World>(
         → HasRun result.code ⊎ (result.code ≡ 30) }
     ensures unfaulted { (r : Recording) → line_in words.now ≡ Records r → HasRun result.code
         → CountsKept (W.ledger world.old) (W.ledger world.new) }
+
+    // A replay of a log that is accepted whole has the status of the log's END where nothing fails,
+    // and of another it doesn't.
+    ensures replays { (r : Replaying) (log file : List ℕ) (reason code : ℕ)
+        → line_in words.now ≡ Replays r
+        → (W.ledger world.old).names r.log ≡ Some log
+        → (W.ledger world.old).names r.bios ≡ Some file
+        → IsReplayable r log file reason code
+        → CountsStood (W.ledger world.old) (W.ledger world.new)
+        → (result.code ≡ ending_status reason code) ⊎ (result.code ≡ 30) }
+    ensures refuses { (r : Replaying) (log file : List ℕ) → line_in words.now ≡ Replays r
+        → (W.ledger world.old).names r.log ≡ Some log
+        → (W.ledger world.old).names r.bios ≡ Some file
+        → IsRefusable r log file
+        → CountsStood (W.ledger world.old) (W.ledger world.new)
+        → (result.code ≡ 20) ⊎ ((result.code ≡ 22) ⊎ (result.code ≡ 30)) }
 
     // Each device is given back.
     ensures balanced { (role : ARole) → Balanced role (W.ledger world.old) (W.ledger world.new) }

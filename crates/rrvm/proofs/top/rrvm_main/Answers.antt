@@ -1,16 +1,10 @@
-use Rattle.std.proofs.Common.{sym, map, string_bytes}
+use Rattle.std.proofs.Common.{map, string_bytes}
 use Rattle.command_line.specs.Line.{seen_line, line_in}
-use Rattle.rrvm.proofs.Ranges.{line_in_range}
-use Rattle.rrvm.proofs.Telling.{told-explained, told-log, bad-firmware-told, guest-ended-told}
+use Rattle.rrvm.proofs.Completing.{replays-told, refuses-told}
+use Rattle.rrvm.proofs.Statuses.{bad-firmware-told, guest-ended-told, unfaulted-told}
+use Rattle.rrvm.proofs.Telling.{told-explained, told-log, told-shown}
 use Rattle.rrvm.proofs.top.rrvm_main.Goals as goal
 
--- src/top.rt:222:9
-pub answer_uncounted-outcome-requires-clause-range :
-    goal.answer_uncounted-outcome-requires-clause-range
-answer_uncounted-outcome-requires-clause-range g c κs within =
-    line_in_range (map string_bytes c.args.words.now) (seen_line c.read_line-line.result) (sym c.read_line-line.ensures.value)
-
--- src/top.rt:167:1
 pub returns-clause-explained : goal.returns-clause-explained
 returns-clause-explained g c =
     told-explained (map string_bytes c.args.words.now) (seen_line c.read_line-line.result) (line_in c.args.words.now)
@@ -20,21 +14,42 @@ returns-clause-explained g c =
     c.tell-told.ensures.which c.answer_uncounted-outcome.ensures.cause c.tell-told.ensures.front c.tell-told.ensures.whole
     c.status.ensures
 
--- src/top.rt:167:1
 pub returns-clause-log : goal.returns-clause-log
 returns-clause-log g c =
     told-log (seen_line c.read_line-line.result) (line_in c.args.words.now)
     (g.W.World.ledger c.args.world.now) (g.W.World.ledger c.answer_uncounted-outcome.new.world) (g.W.World.ledger c.tell-told.new.world)
     c.read_line-line.ensures.value c.tell-told.ensures.rest c.answer_uncounted-outcome.ensures.log
 
--- src/top.rt:167:1
+pub returns-clause-shown : goal.returns-clause-shown
+returns-clause-shown g c =
+    told-shown (seen_line c.read_line-line.result) (line_in c.args.words.now)
+    (g.W.World.ledger c.args.world.now) (g.W.World.ledger c.answer_uncounted-outcome.new.world) (g.W.World.ledger c.tell-told.new.world)
+    c.read_line-line.ensures.value c.tell-told.ensures.rest c.answer_uncounted-outcome.ensures.shown
+
+pub returns-clause-replays : goal.returns-clause-replays
+returns-clause-replays g c =
+    replays-told (map string_bytes c.args.words.now) (line_in c.args.words.now) (g.W.World.ledger c.args.world.now)
+    (g.W.World.ledger c.tell-told.new.world) c.status.result (returns-clause-explained g c)
+
+pub returns-clause-refuses : goal.returns-clause-refuses
+returns-clause-refuses g c =
+    refuses-told (map string_bytes c.args.words.now) (line_in c.args.words.now) (g.W.World.ledger c.args.world.now)
+    (g.W.World.ledger c.tell-told.new.world) c.status.result (returns-clause-explained g c)
+
 pub returns-clause-bad_firmware : goal.returns-clause-bad_firmware
 returns-clause-bad_firmware g c =
     bad-firmware-told (map string_bytes c.args.words.now) (line_in c.args.words.now)
     (g.W.World.ledger c.args.world.now) (g.W.World.ledger c.tell-told.new.world) c.status.result (returns-clause-explained g c)
 
--- src/top.rt:167:1
 pub returns-clause-guest : goal.returns-clause-guest
 returns-clause-guest g c =
     guest-ended-told (map string_bytes c.args.words.now) (line_in c.args.words.now)
     (g.W.World.ledger c.args.world.now) (g.W.World.ledger c.tell-told.new.world) c.status.result (returns-clause-explained g c)
+
+pub returns-clause-unfaulted : goal.returns-clause-unfaulted
+returns-clause-unfaulted g c = λ r asks run.
+    unfaulted-told (seen_line c.read_line-line.result) (line_in c.args.words.now)
+    (g.W.World.ledger c.args.world.now) (g.W.World.ledger c.answer_uncounted-outcome.new.world) (g.W.World.ledger c.tell-told.new.world)
+    c.answer_uncounted-outcome.result c.tell-told.result c.status.result
+    c.read_line-line.ensures.value c.tell-told.ensures.rest c.tell-told.ensures.which c.answer_uncounted-outcome.ensures.cause
+    c.answer_uncounted-outcome.ensures.kept c.status.ensures r asks run

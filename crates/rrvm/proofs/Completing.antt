@@ -1,0 +1,294 @@
+-- A replay whose words and images are those of its log's header, where no count of faults rises: a
+-- log that is accepted whole gives the status of its END, and one with a first wrong event doesn't.
+use Rattle.std.proofs.Common.{◌≡◌, ◌<◌, ◌^◌, ◌+◌, ◌⊎◌, inl, inr, ℕ, List, [], ◌∷◌, ◌++◌, length, drop, refl, sym, ap, ◌∙◌, subst, arith, append_assoc}
+use Rattle.std.specs.Prelude.{Some, None, Result, Ok, Err, IfSome}
+use Rattle.std.specs.declared.option.Option.{Option}
+use Rattle.outside.specs.Causes.{Rose, Stood}
+use Rattle.outside.specs.Ledger.{Ledger}
+use Rattle.outside.specs.Roles.{at}
+use Rattle.outside.specs.declared.roles.Role.TheVariants.{LogIn}
+use Rattle.command_line.specs.Words.{Replaying, Reading, Replays}
+use Rattle.elf_load.specs.declared.error.LoadError.{LoadError}
+use Rattle.elf_load.specs.declared.pieces.Loaded.{Loaded}
+use Rattle.elf_load.specs.Load.{loaded}
+use Rattle.event_log.specs.declared.event.Event.{Event}
+use Rattle.event_log.specs.declared.header.Header.{Header}
+use Rattle.event_log.specs.declared.parse.ParseError.{ParseError}
+use Rattle.event_log.specs.declared.parse.ParseError.TheVariants as parse
+use Rattle.event_log.specs.Spelling.{texts}
+use Rattle.event_log.proofs.HeaderLaws.{one_headers}
+use Rattle.board.specs.Due.{due}
+use Rattle.board.specs.State.{State}
+use Rattle.board.specs.declared.control.Ending.{Ending}
+use Rattle.log_order.specs.declared.refusal.Found.TheVariants as found
+use Rattle.log_order.specs.declared.refusal.Refusal.{Refusal}
+use Rattle.log_order.specs.Order.{IsFirstWrong, IsWhole}
+use Rattle.log_order.proofs.Verdicts.{whole-right, one-wrong}
+use Rattle.rr_engine.specs.Runs.{start_of}
+use Rattle.rrvm.specs.declared.difference.Difference.{Difference}
+use Rattle.rrvm.specs.declared.difference.Difference.TheVariants as difference
+use Rattle.rrvm.specs.declared.outcome.Outcome.{Outcome}
+use Rattle.rrvm.specs.declared.outcome.Outcome.TheVariants.{Printed, GuestEnded, IdleForEver, BudgetReached, BadWord, WordsMissing, CannotOpen, CannotRead, ConsoleFailed, LogFailed, LogUnreadable, BadFirmware, RecordingStopped, HeaderRefused, LogRefused, ImagesDiffer, LogTooLong, NoMemory}
+use Rattle.rrvm.specs.Ledgers.{CountsStood}
+use Rattle.rrvm.specs.Outcomes.{status_of}
+use Rattle.rrvm.specs.Replays.{HasHeader, IsBadHeader, word_difference, IsBadImage, Starts, IsDifferent, IsReplayed, IsRefusedLog, IsReplayable, IsRefusable}
+use Rattle.rrvm.specs.Answers.{Cause, ReplayCause, Explained, IfBoth, ending_status}
+
+-- ---- a log and a file have one header, one image and one verdict
+
+abbrev header_is : Header → Result Header ParseError
+header_is h = Ok h
+
+header-same : (h k : Header) → header_is h ≡ header_is k → h ≡ k
+header-same h k e = cc
+
+one-header : (log : List ℕ) (h k : Header) → HasHeader log h → HasHeader log k → h ≡ k
+one-header log h k a b =
+    header-same h k (one_headers log (Ok h) (Ok k) (a.is, a.stands) (b.is, b.stands))
+
+no-bad-header : (log : List ℕ) (h : Header) (offset : ℕ) → HasHeader log h → IsBadHeader log offset
+    → ⊥
+no-bad-header log h offset has (inl short) =
+    let same = one_headers log (Ok h) (Err (parse.Cut offset)) (has.is, has.stands) short in
+    absurd cc
+no-bad-header log h offset has (inr (long, stops)) =
+    let same = one_headers log (Ok h) (Err (parse.Bad offset stops.0)) (has.is, has.stands)
+    (long, stops.1) in
+    absurd cc
+
+abbrev loads_as : Loaded → Result Loaded LoadError
+loads_as f = Ok f
+
+loaded-same : (f g : Loaded) → loads_as f ≡ loads_as g → f ≡ g
+loaded-same f g e = cc
+
+same-start : (r : Replaying) (log file : List ℕ) (h k : Header) (f g : Loaded)
+    → Starts r log file h f → Starts r log file k g → start_of h f ≡ start_of k g
+same-start r log file h k f g a b =
+    let header : h ≡ k = one-header log h k a.has b.has in
+    let again : loaded file h.ram_mib ≡ Ok g =
+    subst (λ (z : Header). loaded file z.ram_mib ≡ Ok g) (sym header) b.image.loads in
+    let image : f ≡ g = loaded-same f g (sym a.image.loads ∙ again) in
+    ap (λ (z : Header). start_of z f) header ∙ ap (λ (z : Loaded). start_of k z) image
+
+-- a byte behind the end of a run is refused
+abbrev behind : State → List Event → Refusal
+behind last events = record {
+  index = length events;
+  offset = 0 + length (texts events);
+  due = due last;
+  found = found.MoreBytes;
+}
+
+behind-whole : (bytes : List ℕ) (g last : State) (w : IsWhole bytes g last)
+    → IsFirstWrong (bytes ++ 0 ∷ []) 0 g (behind last w.events) last last
+behind-whole bytes g last w = record {
+  events = w.events;
+  rest = 0 ∷ [];
+  accepted = record {
+    parts = ap (λ (z : List ℕ). z ++ 0 ∷ []) w.accepted.parts
+        ∙ append_assoc (texts w.events) [] (0 ∷ []);
+    are = w.accepted.are;
+    runs = w.accepted.runs;
+  };
+  index = refl;
+  offset = refl;
+  wrong = (w.ended, λ e. absurd cc, refl, refl);
+}
+
+one-whole : (bytes : List ℕ) (g a b : State) → IsWhole bytes g a → IsWhole bytes g b → a ≡ b
+one-whole bytes g a b v w =
+    (one-wrong (bytes ++ 0 ∷ []) 0 g a a b b (behind a v.events) (behind b w.events)
+    (behind-whole bytes g a v) (behind-whole bytes g b w)).2
+
+abbrev ending : ℕ → ℕ → Ending
+ending reason code = record { reason = reason; code = code }
+
+some-ended : (x y : Ending) → Some x ≡ Some y → x ≡ y
+some-ended x y e = cc
+
+ended-as : (m n reason code : ℕ) → ending m n ≡ ending reason code
+    → ending_status m n ≡ ending_status reason code
+ended-as m n reason code e = ap (λ (z : Ending). ending_status z.reason z.code) e
+
+ending-same : (a b : State) (m n reason code : ℕ) → a ≡ b
+    → a.control.ended ≡ Some (ending m n) → b.control.ended ≡ Some (ending reason code)
+    → ending_status m n ≡ ending_status reason code
+ending-same a b m n reason code same e f =
+    ended-as m n reason code (some-ended (ending m n) (ending reason code)
+    (sym e ∙ ap (λ (z : State). z.control.ended) same ∙ f))
+
+-- ---- what can't come to a replay that starts
+
+rose-stood : (before now : ℕ) → Rose before now → Stood before now → ⊥
+rose-stood before now rose stood = omega (arith, rose, stood)
+
+no-bad-image : (r : Replaying) (log file : List ℕ) (h k : Header) (f : Loaded) (rule : LoadError)
+    → Starts r log file h f → HasHeader log k → IsBadImage k file rule → ⊥
+no-bad-image r log file h k f rule s has (inl (same, broken)) =
+    let header : h ≡ k = one-header log h k s.has has in
+    let again : loaded file h.ram_mib ≡ Err rule =
+    subst (λ (z : Header). loaded file z.ram_mib ≡ Err rule) (sym header) broken in
+    let loads = s.image.loads in
+    absurd cc
+no-bad-image r log file h k f rule s has (inr (is, above)) =
+    omega (arith, above, s.image.fits)
+
+not-different : (r : Replaying) (log file : List ℕ) (h : Header) (f : Loaded) (which : Difference)
+    → Starts r log file h f → IsDifferent r h (Some file) which → ⊥
+not-different r log file h f difference.Shift s k = let words = s.words in absurd cc
+not-different r log file h f difference.Ram s k = let words = s.words in absurd cc
+not-different r log file h f difference.Firmware s k = k.1 s.image.same
+not-different r log file h f difference.DiskLength s k = k.1.1 s.disk.length
+not-different r log file h f difference.Disk s k = k.1.2 s.disk.digest
+
+no-difference : (r : Replaying) (log file : List ℕ) (held : Option (List ℕ)) (h k : Header)
+    (f : Loaded) (which : Difference) → held ≡ Some file
+    → Starts r log file h f → HasHeader log k → IsDifferent r k held which → ⊥
+no-difference r log file held h k f which told s has d =
+    let header : k ≡ h = one-header log k h has s.has in
+    not-different r log file h f which s
+    (subst (λ (z : Header). IsDifferent r z (Some file) which) header
+    (subst (λ (z : Option (List ℕ)). IsDifferent r k z which) told d))
+
+-- ---- what comes to a replay that starts
+
+if-told : (o : Option (List ℕ)) (log : List ℕ) (P : List ℕ → Type 0) → o ≡ Some log → IfSome o P
+    → P log
+if-told o log P told k = subst (λ (z : Option (List ℕ)). IfSome z P) told k
+
+both-told : (o held : Option (List ℕ)) (log file : List ℕ) (P : List ℕ → List ℕ → Type 0)
+    → o ≡ Some log → held ≡ Some file → IfBoth o held P → P log file
+both-told o held log file P told firmware k =
+    subst (λ (z : Option (List ℕ)). IfBoth (Some log) z P) firmware
+    (subst (λ (z : Option (List ℕ)). IfBoth z held P) told k)
+
+-- the status of a log that is accepted whole, is refused, or is too long; or memory is refused
+abbrev Comes : Replaying → List ℕ → List ℕ → Ledger → ℕ → Type 0
+Comes r log file new status =
+    ((reason : ℕ) × (code : ℕ) × IsReplayed r log file new reason code
+    × (status ≡ ending_status reason code))
+    ⊎ (((refusal : Refusal) × IsRefusedLog r log file new refusal × (status ≡ 20))
+    ⊎ (((2 ^ 40 < length log) × (status ≡ 22)) ⊎ (status ≡ 30)))
+
+ended-comes : (r : Replaying) (log file : List ℕ) (old new : Ledger) (reason code : ℕ)
+    → old.names r.log ≡ Some log → old.names r.bios ≡ Some file
+    → IfBoth (old.names r.log) (old.names r.bios) (λ xs ys. IsReplayed r xs ys new reason code)
+    → Comes r log file new (ending_status reason code)
+ended-comes r log file old new reason code told held k =
+    let replayed = both-told (old.names r.log) (old.names r.bios) log file
+    (λ xs ys. IsReplayed r xs ys new reason code) told held k in
+    inl (reason, code, replayed, refl)
+
+comes : (r : Replaying) (log file : List ℕ) (h : Header) (f : Loaded) (old new : Ledger)
+    (outcome : Outcome)
+    → old.names r.log ≡ Some log → old.names r.bios ≡ Some file → Starts r log file h f
+    → CountsStood old new
+    → ReplayCause r (old.names r.log) old new
+    (Rose (at old.faults LogIn) (at new.faults LogIn)) outcome
+    → Comes r log file new (status_of outcome)
+comes r log file h f old new Printed told held s stood k = absurd k
+comes r log file h f old new (GuestEnded code) told held s stood k =
+    ended-comes r log file old new 0 code told held k
+comes r log file h f old new IdleForEver told held s stood k =
+    ended-comes r log file old new 1 0 told held k
+comes r log file h f old new BudgetReached told held s stood k =
+    ended-comes r log file old new 2 0 told held k
+comes r log file h f old new (BadWord number) told held s stood k = absurd k
+comes r log file h f old new WordsMissing told held s stood k = absurd k
+comes r log file h f old new (CannotOpen role) told held s stood k =
+    absurd (rose-stood _ _ k stood.opening)
+comes r log file h f old new CannotRead told held s stood k =
+    absurd (rose-stood _ _ k stood.firmware)
+comes r log file h f old new ConsoleFailed told held s stood k =
+    absurd (rose-stood _ _ k.0 stood.console)
+comes r log file h f old new LogFailed told held s stood k = absurd k
+comes r log file h f old new LogUnreadable told held s stood k =
+    absurd (rose-stood _ _ k stood.replayed_log)
+comes r log file h f old new (BadFirmware rule) told held s stood k =
+    let bad = both-told (old.names r.log) (old.names r.bios) log file
+    (λ xs ys. (z : Header) × HasHeader xs z × (word_difference r z ≡ None) × IsBadImage z ys rule)
+    told held k in
+    absurd (no-bad-image r log file h bad.0 f rule s bad.1 bad.3)
+comes r log file h f old new RecordingStopped told held s stood k =
+    ended-comes r log file old new 3 0 told held k
+comes r log file h f old new (HeaderRefused offset) told held s stood k =
+    absurd (no-bad-header log h offset s.has
+    (if-told (old.names r.log) log (λ xs. IsBadHeader xs offset) told k))
+comes r log file h f old new (LogRefused refusal) told held s stood k =
+    let refused = both-told (old.names r.log) (old.names r.bios) log file
+    (λ xs ys. IsRefusedLog r xs ys new refusal) told held k in
+    inr (inl (refusal, refused, refl))
+comes r log file h f old new (ImagesDiffer which) told held s stood k =
+    let other = if-told (old.names r.log) log
+    (λ xs. (z : Header) × HasHeader xs z × IsDifferent r z (old.names r.bios) which) told k in
+    absurd (no-difference r log file (old.names r.bios) h other.0 f which held s other.1 other.2)
+comes r log file h f old new LogTooLong told held s stood k =
+    inr (inr (inl (if-told (old.names r.log) log (λ xs. 2 ^ 40 < length xs) told k, refl)))
+comes r log file h f old new NoMemory told held s stood k = inr (inr (inr refl))
+
+explained-comes : (words : List (List ℕ)) (line : Reading) (old new : Ledger) (status : ℕ)
+    → Explained words line old new status
+    → (r : Replaying) (log file : List ℕ) (h : Header) (f : Loaded) → line ≡ Replays r
+    → old.names r.log ≡ Some log → old.names r.bios ≡ Some file → Starts r log file h f
+    → CountsStood old new → Comes r log file new status
+explained-comes words line old new status x r log file h f asks told held s stood =
+    let cause = subst (λ (z : Reading). Cause z old new x.outcome) asks x.cause in
+    subst (λ (z : ℕ). Comes r log file new z) (sym x.is_status)
+    (comes r log file h f old new x.outcome told held s stood cause)
+
+-- ---- the two statuses
+
+replays-comes : (r : Replaying) (log file : List ℕ) (new : Ledger) (reason code status : ℕ)
+    → IsReplayable r log file reason code → Comes r log file new status
+    → (status ≡ ending_status reason code) ⊎ (status ≡ 30)
+replays-comes r log file new reason code status x (inl (m, n, k, e)) =
+    let start = same-start r log file k.header x.header k.firmware x.firmware k.starts x.starts in
+    let whole : IsWhole (drop 98 log) (start_of x.header x.firmware) k.last =
+    subst (λ (z : State). IsWhole (drop 98 log) z k.last) start k.whole in
+    let last = one-whole (drop 98 log) (start_of x.header x.firmware) k.last x.last whole x.whole in
+    inl (e ∙ ending-same k.last x.last m n reason code last k.ended x.ended)
+replays-comes r log file new reason code status x (inr (inl (refusal, k, e))) =
+    let start = same-start r log file x.header k.header x.firmware k.firmware x.starts k.starts in
+    let whole : IsWhole (drop 98 log) (start_of k.header k.firmware) x.last =
+    subst (λ (z : State). IsWhole (drop 98 log) z x.last) start x.whole in
+    absurd (whole-right (drop 98 log) 98 (start_of k.header k.firmware) k.mid k.last x.last refusal
+    k.wrong whole)
+replays-comes r log file new reason code status x (inr (inr (inl (long, e)))) =
+    absurd (omega (arith, long, x.short))
+replays-comes r log file new reason code status x (inr (inr (inr e))) = inr e
+
+refuses-comes : (r : Replaying) (log file : List ℕ) (new : Ledger) (status : ℕ)
+    → IsRefusable r log file → Comes r log file new status
+    → (status ≡ 20) ⊎ ((status ≡ 22) ⊎ (status ≡ 30))
+refuses-comes r log file new status x (inl (m, n, k, e)) =
+    let start = same-start r log file k.header x.header k.firmware x.firmware k.starts x.starts in
+    let whole : IsWhole (drop 98 log) (start_of x.header x.firmware) k.last =
+    subst (λ (z : State). IsWhole (drop 98 log) z k.last) start k.whole in
+    absurd (whole-right (drop 98 log) 98 (start_of x.header x.firmware) x.mid x.last k.last
+    x.refusal x.wrong whole)
+refuses-comes r log file new status x (inr (inl (refusal, k, e))) = inl e
+refuses-comes r log file new status x (inr (inr (inl (long, e)))) = inr (inl e)
+refuses-comes r log file new status x (inr (inr (inr e))) = inr (inr e)
+
+pub replays-told : (words : List (List ℕ)) (line : Reading) (old new : Ledger) (status : ℕ)
+    → Explained words line old new status
+    → (r : Replaying) (log file : List ℕ) (reason code : ℕ) → line ≡ Replays r
+    → old.names r.log ≡ Some log → old.names r.bios ≡ Some file
+    → IsReplayable r log file reason code → CountsStood old new
+    → (status ≡ ending_status reason code) ⊎ (status ≡ 30)
+replays-told words line old new status e r log file reason code asks told held x stood =
+    replays-comes r log file new reason code status x
+    (explained-comes words line old new status e r log file x.header x.firmware asks told held
+    x.starts stood)
+
+pub refuses-told : (words : List (List ℕ)) (line : Reading) (old new : Ledger) (status : ℕ)
+    → Explained words line old new status
+    → (r : Replaying) (log file : List ℕ) → line ≡ Replays r
+    → old.names r.log ≡ Some log → old.names r.bios ≡ Some file
+    → IsRefusable r log file → CountsStood old new
+    → (status ≡ 20) ⊎ ((status ≡ 22) ⊎ (status ≡ 30))
+refuses-told words line old new status e r log file asks told held x stood =
+    refuses-comes r log file new status x
+    (explained-comes words line old new status e r log file x.header x.firmware asks told held
+    x.starts stood)

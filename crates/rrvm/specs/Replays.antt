@@ -1,0 +1,148 @@
+-- What the words ask to replay, and what a replay of it gives.
+use Rattle.std.specs.Prelude.{◌≡◌, ◌≢◌, ◌≤◌, ◌<◌, ◌⊎◌, ◌==◌, ◌^◌, ℕ, Bool, false, not, List, [], ◌++◌, length, drop, Some, None, IfSome, Ok, Err, if◌then◌else◌}
+use Rattle.std.specs.declared.option.Option.{Option}
+use Rattle.sha2.specs.Sha256.{sha256}
+use Rattle.outside.specs.Ledger.{Ledger}
+use Rattle.outside.specs.Roles.{at}
+use Rattle.outside.specs.Told.{Takes, TakesFront}
+use Rattle.outside.specs.declared.roles.Role.TheVariants.{ConsoleOut}
+use Rattle.command_line.specs.Words.{Replaying}
+use Rattle.elf_load.specs.declared.pieces.Loaded.{Loaded}
+use Rattle.elf_load.specs.declared.error.LoadError.{LoadError}
+use Rattle.elf_load.specs.declared.error.LoadError.TheVariants as load_error
+use Rattle.elf_load.specs.Load.{loaded}
+use Rattle.event_log.specs.declared.event.Event.{Event}
+use Rattle.event_log.specs.declared.header.Header.{Header}
+use Rattle.event_log.specs.declared.rule.Rule.{Rule}
+use Rattle.event_log.specs.Grammar.{Stops, Bad}
+use Rattle.event_log.specs.HeaderFormat.{header as header_format, header_text, IsHeader}
+use Rattle.board.specs.State.{State}
+use Rattle.log_order.specs.declared.refusal.Refusal.{Refusal}
+use Rattle.log_order.specs.Order.{Accepted, IsFirstWrong, IsWhole}
+use Rattle.rr_engine.specs.Runs.{start_of}
+use Rattle.rrvm.specs.declared.difference.Difference.{Difference}
+use Rattle.rrvm.specs.declared.difference.Difference.TheVariants.{Shift, Ram, Firmware, DiskLength, Disk}
+use Rattle.rrvm.specs.declared.firmware.TheConstants.{FIRMWARE_LIMIT}
+
+-- the header that stands at the front of the log
+pub record HasHeader (log : List ℕ) (h : Header) : Type 0 where
+  pub is : IsHeader h
+  pub stands : log ≡ header_text h ++ drop 98 log
+
+-- no header stands there: the log is too short, or the field at this offset is the first that is
+-- out of range
+abbrev pub IsBadHeader : List ℕ → ℕ → Type 0
+IsBadHeader log offset =
+    ((length log < 98) × (offset ≡ 0))
+    ⊎ ((98 ≤ length log) × ((rule : Rule) × Stops header_format log (Bad (offset, rule))))
+
+-- a number that is given is another
+abbrev pub is_another : Option ℕ → ℕ → Bool
+is_another None n = false
+is_another (Some m) n = not (m == n)
+
+-- what the words give otherwise than the header
+abbrev pub word_difference : Replaying → Header → Option Difference
+word_difference r h =
+    if is_another r.shift h.shift then Some Shift
+    else if is_another r.ram_mib h.ram_mib then Some Ram
+    else None
+
+-- the file is the header's firmware, and loads as this for its RAM
+pub record IsFirmware (h : Header) (file : List ℕ) (firmware : Loaded) : Type 0 where
+  pub same : sha256 file ≡ h.firmware
+  pub fits : length file ≤ FIRMWARE_LIMIT
+  pub loads : loaded file h.ram_mib ≡ Ok firmware
+
+-- the file is the header's firmware and breaks a rule, or is above the limit
+abbrev pub IsBadImage : Header → List ℕ → LoadError → Type 0
+IsBadImage h file rule =
+    ((sha256 file ≡ h.firmware) × (loaded file h.ram_mib ≡ Err rule))
+    ⊎ ((rule ≡ load_error.TooLong) × (FIRMWARE_LIMIT < length file))
+
+-- the header names no disk: one without bytes
+pub record NamesNoDisk (h : Header) : Type 0 where
+  pub length : h.disk_len ≡ 0
+  pub digest : h.disk ≡ sha256 []
+
+-- the words and the images are those of the log's header, and a run starts
+pub record Starts (r : Replaying) (log file : List ℕ) (h : Header) (firmware : Loaded)
+    : Type 0 where
+  pub has : HasHeader log h
+  pub words : word_difference r h ≡ None
+  pub image : IsFirmware h file firmware
+  pub disk : NamesNoDisk h
+
+-- the log is accepted whole, its END has this reason and code, and the console has the machine's
+-- bytes
+pub record IsReplayed (r : Replaying) (log file : List ℕ) (l : Ledger) (reason code : ℕ)
+    : Type 0 where
+  pub header : Header
+  pub firmware : Loaded
+  pub starts : Starts r log file header firmware
+  pub last : State
+  pub whole : IsWhole (drop 98 log) (start_of header firmware) last
+  pub ended : last.control.ended ≡ Some (record { reason = reason; code = code })
+  pub console : Takes (Some []) (at l.last ConsoleOut) last.devices.uart.out
+
+-- the log is refused at its first wrong event, and the console has the bytes of the accepted part
+pub record IsRefusedLog (r : Replaying) (log file : List ℕ) (l : Ledger) (refusal : Refusal)
+    : Type 0 where
+  pub header : Header
+  pub firmware : Loaded
+  pub starts : Starts r log file header firmware
+  pub mid : State
+  pub last : State
+  pub wrong : IsFirstWrong (drop 98 log) 98 (start_of header firmware) refusal mid last
+  pub console : Takes (Some []) (at l.last ConsoleOut) mid.devices.uart.out
+
+-- the console has a front of the bytes of a part of the log that is accepted
+pub record IsShown (r : Replaying) (log file : List ℕ) (l : Ledger) : Type 0 where
+  pub header : Header
+  pub firmware : Loaded
+  pub starts : Starts r log file header firmware
+  pub events : List Event
+  pub rest : List ℕ
+  pub last : State
+  pub accepted : Accepted (drop 98 log) (start_of header firmware) events rest last
+  pub console : TakesFront (Some []) (at l.last ConsoleOut) last.devices.uart.out
+
+-- what differs: what the words give, before the firmware's file is opened; the file; or, once it is
+-- loaded, the disk
+abbrev pub IsDifferent : Replaying → Header → Option (List ℕ) → Difference → Type 0
+IsDifferent r h held Shift = word_difference r h ≡ Some Shift
+IsDifferent r h held Ram = word_difference r h ≡ Some Ram
+IsDifferent r h held Firmware =
+    (word_difference r h ≡ None) × IfSome held (λ file. sha256 file ≢ h.firmware)
+IsDifferent r h held DiskLength =
+    (word_difference r h ≡ None)
+    × IfSome held (λ file. ((firmware : Loaded) × IsFirmware h file firmware) × (h.disk_len ≢ 0))
+IsDifferent r h held Disk =
+    (word_difference r h ≡ None)
+    × IfSome held (λ file. ((firmware : Loaded) × IsFirmware h file firmware)
+    × (h.disk_len ≡ 0) × (h.disk ≢ sha256 []))
+
+-- the words and the images are those of the log's header, whichever that is
+abbrev pub IsStarted : Replaying → List ℕ → List ℕ → Type 0
+IsStarted r log file = (h : Header) × (firmware : Loaded) × Starts r log file h firmware
+
+-- The words and the images are those of the log's header, and the log is accepted whole and isn't
+-- too long to be read; its END has this reason and code.
+pub record IsReplayable (r : Replaying) (log file : List ℕ) (reason code : ℕ) : Type 0 where
+  pub header : Header
+  pub firmware : Loaded
+  pub starts : Starts r log file header firmware
+  pub short : length log ≤ 2 ^ 40
+  pub last : State
+  pub whole : IsWhole (drop 98 log) (start_of header firmware) last
+  pub ended : last.control.ended ≡ Some (record { reason = reason; code = code })
+
+-- the same, where the log has a first wrong event
+pub record IsRefusable (r : Replaying) (log file : List ℕ) : Type 0 where
+  pub header : Header
+  pub firmware : Loaded
+  pub starts : Starts r log file header firmware
+  pub refusal : Refusal
+  pub mid : State
+  pub last : State
+  pub wrong : IsFirstWrong (drop 98 log) 98 (start_of header firmware) refusal mid last
