@@ -1,0 +1,9 @@
+pub mod History
+pub mod Contained
+pub mod Issued
+pub mod Counts
+pub mod Owners
+pub mod Rooms
+pub mod Promises
+pub mod Keeping
+pub mod Places

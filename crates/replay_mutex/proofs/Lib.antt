@@ -1,0 +1,10 @@
+pub mod Calls
+pub mod Moved
+pub mod Keeping
+pub mod Made
+pub mod Taken
+pub mod Entered
+pub mod Closings
+pub mod Rows
+pub mod Firsts
+pub mod FreshIds

@@ -1,0 +1,4 @@
+//! Rows of calls by one thread, and hubs that many threads call.
+mod parts;
+mod rows;
+mod threads;
