@@ -14,13 +14,15 @@ use Rattle.rrvm.specs.declared.firmware.FirmwareFault.TheVariants.{CannotOpen, C
 use Rattle.rrvm.specs.declared.firmware.TheConstants.{FIRMWARE_LIMIT}
 use Rattle.rrvm.specs.Firmwares.{IsFirmwareOf, IsRefused, IsRefusedFile}
 
-refused-bytes : (read : List ℕ) (mib : ℕ) (e : FirmwareFault) → IsRefused read mib e → IsRefusedFile read mib e
+refused-bytes : (read : List ℕ) (mib : ℕ) (e : FirmwareFault) → IsRefused read mib e
+    → IsRefusedFile read mib e
 refused-bytes read mib CannotOpen r = tt
 refused-bytes read mib CannotRead r = tt
 refused-bytes read mib (Bad rule) r = inl r
 refused-bytes read mib NoMemory r = tt
 
-held-firmware : (held : Option (List ℕ)) (read : List ℕ) (mib : ℕ) (r : Result Firmware FirmwareFault)
+held-firmware : (held : Option (List ℕ)) (read : List ℕ) (mib : ℕ)
+    (r : Result Firmware FirmwareFault)
     → IfSome held (λ xs. read ≡ xs) → length read ≤ FIRMWARE_LIMIT
     → IfOk r (λ f. IsFirmwareOf read mib f)
     → IfOk r (λ f. IfSome held (λ file. IsFirmwareOf file mib f × (length file ≤ FIRMWARE_LIMIT)))
@@ -29,7 +31,8 @@ held-firmware (Some file) read mib (Ok f) same fits is =
     subst (λ (xs : List ℕ). IsFirmwareOf xs mib f × (length xs ≤ FIRMWARE_LIMIT)) same (is, fits)
 held-firmware held read mib (Err e) same fits is = tt
 
-held-refused : (held : Option (List ℕ)) (read : List ℕ) (mib : ℕ) (r : Result Firmware FirmwareFault)
+held-refused : (held : Option (List ℕ)) (read : List ℕ) (mib : ℕ)
+    (r : Result Firmware FirmwareFault)
     → IfSome held (λ xs. read ≡ xs)
     → IfErr r (λ e. IsRefused read mib e)
     → IfErr r (λ e. IfSome held (λ file. IsRefusedFile file mib e))
@@ -74,10 +77,15 @@ fault-of read h image.CannotOpen fits given = tt
 fault-of read h image.CannotRead fits given = tt
 fault-of read h (image.Bad rule) fits given = inl given
 fault-of read h image.OtherFirmware fits given = given
-fault-of read h image.OtherDiskLength fits given =
-    ((given.0.firmware, record { same = given.0.same; fits = fits; loads = given.0.loads }), given.1)
-fault-of read h image.OtherDisk fits given =
-    ((given.0.firmware, record { same = given.0.same; fits = fits; loads = given.0.loads }), given.1, given.2)
+fault-of read h image.OtherDiskLength fits given = (
+  (given.0.firmware, record { same = given.0.same; fits = fits; loads = given.0.loads }),
+  given.1,
+)
+fault-of read h image.OtherDisk fits given = (
+  (given.0.firmware, record { same = given.0.same; fits = fits; loads = given.0.loads }),
+  given.1,
+  given.2,
+)
 fault-of read h image.NoMemory fits given = tt
 
 fault-held : (held : Option (List ℕ)) (read : List ℕ) (h : Header) (r : Result Loaded ImageFault)

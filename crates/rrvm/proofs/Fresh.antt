@@ -12,8 +12,10 @@ use Rattle.rr_engine.specs.Recording.{clock_values}
 use Rattle.rr_engine.specs.Runs.{RecordedWhole, RecordedFront, Whole, Front, Records}
 use Rattle.rrvm.specs.Endings.{IfEnds, IsFresh, recording_end_of}
 
-whole-started : (start : State) (head : List ℕ) (old new : Outputs) (reason code : ℕ) → IsFresh old → Whole start head old new reason code
-    → RecordedWhole start head (Some []) new.log (Some []) new.console (Some []) new.gave reason code
+whole-started : (start : State) (head : List ℕ) (old new : Outputs) (reason code : ℕ) → IsFresh old
+    → Whole start head old new reason code
+    → RecordedWhole start head (Some []) new.log (Some []) new.console (Some []) new.gave reason
+    code
 whole-started start head old new reason code fresh w = record {
   events = w.events;
   last = w.last;
@@ -25,7 +27,8 @@ whole-started start head old new reason code fresh w = record {
   clock_gave = Takes-start old.gave new.gave _ fresh.gave w.clock_gave;
 }
 
-front-started : (start : State) (head : List ℕ) (old new : Outputs) → IsFresh old → Front start head old new
+front-started : (start : State) (head : List ℕ) (old new : Outputs) → IsFresh old
+    → Front start head old new
     → RecordedFront start head (Some []) new.log (Some []) new.console (Some []) new.gave
 front-started start head old new fresh f = record {
   events = f.events;
@@ -51,20 +54,31 @@ whole-front start head a b c d e f reason code w = record {
   runs = w.runs;
   log_taken = TakesFront-all a b _ w.log_taken;
   console_taken = TakesFront-all c d _ w.console_taken;
-  clock_gave = record { more = []; gave = subst (Takes e f) (sym (append-nil (clock_values w.events))) w.clock_gave; all = λ same. refl };
+  clock_gave = record {
+    more = [];
+    gave = subst (Takes e f)
+        (sym (append-nil (clock_values w.events))) w.clock_gave;
+    all = λ same. refl;
+  };
 }
 
-pub records-whole : (start : State) (head : List ℕ) (old new : Outputs) (end : RunEnd) → IsFresh old → Records start head old new end
-    → IfEnds (recording_end_of end) (λ reason code. RecordedWhole start head (Some []) new.log (Some []) new.console (Some []) new.gave reason code)
-records-whole start head old new (End reason code) fresh r = (whole-started start head old new reason code fresh r.0, r.1)
+pub records-whole : (start : State) (head : List ℕ) (old new : Outputs) (end : RunEnd) → IsFresh old
+    → Records start head old new end
+    → IfEnds (recording_end_of end)
+    (λ reason code. RecordedWhole start head (Some []) new.log (Some []) new.console (Some [])
+    new.gave reason code)
+records-whole start head old new (End reason code) fresh r =
+    (whole-started start head old new reason code fresh r.0, r.1)
 records-whole start head old new ConsoleWrite fresh r = tt
 records-whole start head old new LogWrite fresh r = tt
 records-whole start head old new NoMemory fresh r = tt
 
-pub records-front : (start : State) (head : List ℕ) (old new : Outputs) (end : RunEnd) → IsFresh old → Records start head old new end
+pub records-front : (start : State) (head : List ℕ) (old new : Outputs) (end : RunEnd) → IsFresh old
+    → Records start head old new end
     → RecordedFront start head (Some []) new.log (Some []) new.console (Some []) new.gave
 records-front start head old new (End reason code) fresh r =
-    whole-front start head _ _ _ _ _ _ reason code (whole-started start head old new reason code fresh r.0)
+    whole-front start head _ _ _ _ _ _ reason code
+    (whole-started start head old new reason code fresh r.0)
 records-front start head old new ConsoleWrite fresh r = front-started start head old new fresh r.0
 records-front start head old new LogWrite fresh r = front-started start head old new fresh r.0
 records-front start head old new NoMemory fresh r = front-started start head old new fresh r

@@ -19,7 +19,8 @@ use Rattle.rr_engine.proofs.Joining.{some_is, then-more, run-none, values-append
 use Rattle.rr_engine.proofs.Stopping.{with-taken}
 
 -- two ways to cut one list
-cut : (h t b r : List ℕ) → h ++ t ≡ b ++ r → ((x : List ℕ) × (h ≡ b ++ x)) ⊎ ((p : List ℕ) × (b ≡ h ++ p) × (t ≡ p ++ r))
+cut : (h t b r : List ℕ) → h ++ t ≡ b ++ r
+    → ((x : List ℕ) × (h ≡ b ++ x)) ⊎ ((p : List ℕ) × (b ≡ h ++ p) × (t ≡ p ++ r))
 cut [] t b r e = inr (b, refl, e)
 cut (x ∷ h) t [] r e = inl (x ∷ h, refl)
 cut (x ∷ h) t (y ∷ b) r e =
@@ -56,12 +57,14 @@ all-rest : (es fs : List Event) → AllByRecursion IsEvent (es ++ fs) → AllByR
 all-rest [] fs all = all
 all-rest (e ∷ es) fs all = all-rest es fs all.1
 
-mapped : (front : List ℕ) (o : Option State) (h : State) → map_out front o ≡ Some h → (k : State) × (o ≡ Some k) × (h ≡ with_out front k)
+mapped : (front : List ℕ) (o : Option State) (h : State) → map_out front o ≡ Some h
+    → (k : State) × (o ≡ Some k) × (h ≡ with_out front k)
 mapped front None h e = absurd cc
 mapped front (Some k) h e = (k, refl, sym (some_is (with_out front k) h e))
 
 -- console bytes are only added
-grows : (es : List Event) (g h : State) → run g es ≡ Some h → (more : List ℕ) × (h.devices.uart.out ≡ g.devices.uart.out ++ more)
+grows : (es : List Event) (g h : State) → run g es ≡ Some h
+    → (more : List ℕ) × (h.devices.uart.out ≡ g.devices.uart.out ++ more)
 grows es g h r =
     let out = g.devices.uart.out in
     let behind : map_out out (run (without_out g) es) ≡ Some h =
@@ -69,36 +72,46 @@ grows es g h r =
     let m = mapped out (run (without_out g) es) h behind in
     (m.0.devices.uart.out, ap (λ (z : State). z.devices.uart.out) m.2)
 
-part-of-event : (es : List Event) (part : List ℕ) → AllByRecursion IsEvent es → IsPartOfNext es part → IsPartOfEvent part
+part-of-event : (es : List Event) (part : List ℕ) → AllByRecursion IsEvent es → IsPartOfNext es part
+    → IsPartOfEvent part
 part-of-event [] part all none =
-    subst IsPartOfEvent (sym none) (record { event = event.Interrupt; is = tt; rest = 1 ∷ []; spelled = refl; less = λ e. absurd cc })
-part-of-event (e ∷ es) part all next = record { event = e; is = all.0; rest = next.0; spelled = next.1; less = next.2 }
+    subst IsPartOfEvent (sym none) (record
+    { event = event.Interrupt; is = tt; rest = 1 ∷ []; spelled = refl; less = λ e. absurd cc })
+part-of-event (e ∷ es) part all next = record
+    { event = e; is = all.0; rest = next.0; spelled = next.1; less = next.2 }
 
 console-none : (start : State) (console : Option (List ℕ)) → start.devices.uart.out ≡ []
     → IfSome console (λ shown. OneIsFront shown start.devices.uart.out)
 console-none start None e = tt
 console-none start (Some shown) e = rw e (inr (shown, refl))
 
-console-front : (console : Option (List ℕ)) (mid last : State) (more : List ℕ) → last.devices.uart.out ≡ mid.devices.uart.out ++ more
-    → TakesFront (Some []) console last.devices.uart.out → IfSome console (λ shown. OneIsFront shown mid.devices.uart.out)
+console-front : (console : Option (List ℕ)) (mid last : State) (more : List ℕ)
+    → last.devices.uart.out ≡ mid.devices.uart.out ++ more
+    → TakesFront (Some []) console last.devices.uart.out
+    → IfSome console (λ shown. OneIsFront shown mid.devices.uart.out)
 console-front None mid last more e t = tt
 console-front (Some shown) mid last more e t =
     compare shown mid.devices.uart.out t.rest more (ap (λ z. z ++ t.rest) t.taken ∙ sym t.whole ∙ e)
 
-clock-front : (gave : Option (List ℕ)) (es fs : List Event) → Gave false (Some []) gave (clock_values (es ++ fs))
+clock-front : (gave : Option (List ℕ)) (es fs : List Event)
+    → Gave false (Some []) gave (clock_values (es ++ fs))
     → IfSome gave (λ values. (rest : List ℕ) × (values ≡ clock_values es ++ rest))
 clock-front None es fs g = tt
 clock-front (Some values) es fs g = (
   clock_values fs ++ g.more,
-  g.gave ∙ ap (λ z. z ++ g.more) (values-append es fs) ∙ append_assoc (clock_values es) (clock_values fs) g.more,
+  g.gave ∙ ap (λ z. z ++ g.more) (values-append es fs) ∙ append_assoc (clock_values es)
+      (clock_values fs) g.more,
 )
 
-clock-any : (gave : Option (List ℕ)) → IfSome gave (λ values. (rest : List ℕ) × (values ≡ [] ++ rest))
+clock-any : (gave : Option (List ℕ))
+    → IfSome gave (λ values. (rest : List ℕ) × (values ≡ [] ++ rest))
 clock-any None = tt
 clock-any (Some values) = (values, refl)
 
-log-of : (start : State) (head bytes : List ℕ) (console gave : Option (List ℕ)) → start.devices.uart.out ≡ []
-    → RecordedFront start head (Some []) (Some bytes) (Some []) console (Some []) gave → IsLogOf start head bytes console gave
+log-of : (start : State) (head bytes : List ℕ) (console gave : Option (List ℕ))
+    → start.devices.uart.out ≡ []
+    → RecordedFront start head (Some []) (Some bytes) (Some []) console (Some []) gave
+    → IsLogOf start head bytes console gave
 log-of start head bytes console gave none f =
     let whole : head ++ texts f.events ≡ bytes ++ f.log_taken.rest =
     f.log_taken.whole ∙ ap (λ z. z ++ f.log_taken.rest) (sym f.log_taken.taken) in
@@ -114,7 +127,8 @@ log-of start head bytes console gave none f =
       }
       | inr c ↦
           let t = front_of_texts f.events c.0 f.log_taken.rest c.2 in
-          let r = run-cut t.whole t.left start f.last (ap (λ z. run start z) (sym t.events) ∙ f.runs) in
+          let r = run-cut t.whole t.left start f.last
+          (ap (λ z. run start z) (sym t.events) ∙ f.runs) in
           let all = subst (AllByRecursion IsEvent) t.events f.are in
           let more = grows t.left r.0 f.last r.2 in
           record {
@@ -122,14 +136,22 @@ log-of start head bytes console gave none f =
             last = r.0;
             are = all-front t.whole t.left all;
             runs = r.1;
-            spelled = inr (t.part, c.1 ∙ ap (λ z. head ++ z) t.bytes, part-of-event t.left t.part (all-rest t.whole t.left all) t.next);
+            spelled = inr (
+              t.part,
+              c.1 ∙ ap (λ z. head ++ z) t.bytes,
+              part-of-event t.left t.part
+                  (all-rest t.whole t.left all) t.next,
+            );
             console_shown = console-front console r.0 f.last more.0 more.1 f.console_taken;
-            clock_gave = clock-front gave t.whole t.left (subst (λ (z : List Event). Gave false (Some []) gave (clock_values z)) t.events f.clock_gave);
+            clock_gave = clock-front gave t.whole t.left
+                (subst (λ (z : List Event). Gave false (Some []) gave (clock_values z)) t.events
+                f.clock_gave);
           }
     ]
 
 -- of a log that was broken off, what its bytes are, where they are told
-pub is_log : (start : State) (head : List ℕ) (log console gave : Option (List ℕ)) → start.devices.uart.out ≡ []
+pub is_log : (start : State) (head : List ℕ) (log console gave : Option (List ℕ))
+    → start.devices.uart.out ≡ []
     → RecordedFront start head (Some []) log (Some []) console (Some []) gave
     → IfSome log (λ bytes. IsLogOf start head bytes console gave)
 is_log start head None console gave none f = tt

@@ -28,9 +28,11 @@ spelled-none None = tt
 spelled-none (Some bytes) = (bytes, refl)
 
 -- the same, over a console that has taken nothing before
-plays-started : (start : State) (log : Reader) (a : Option (List ℕ)) (n : ℕ) (events : List Event) (last : State)
+plays-started : (start : State) (log : Reader) (a : Option (List ℕ)) (n : ℕ) (events : List Event)
+    (last : State)
     → Plays start (played log a n) events last → Plays start (played log (Some []) 0) events last
-plays-started start log a n events last w = record { are = w.are; runs = w.runs; spelled = w.spelled }
+plays-started start log a n events last w = record
+    { are = w.are; runs = w.runs; spelled = w.spelled }
 
 part-started : (start : State) (log log' : Reader) (a b : Option (List ℕ)) (n m : ℕ)
     → StartsEmpty a → PlaysPart start (played log a n) (played log' b m)
@@ -42,7 +44,8 @@ part-started start log log' a b n m fresh w = record {
   console = Takes-start a b _ fresh w.console;
 }
 
-replays-started : (start : State) (log log' : Reader) (a b : Option (List ℕ)) (n m : ℕ) (end : ReplayEnd)
+replays-started : (start : State) (log log' : Reader) (a b : Option (List ℕ)) (n m : ℕ)
+    (end : ReplayEnd)
     → StartsEmpty a → n ≡ 0 → Replays start (played log a n) (played log' b m) end
     → Replays start (played log (Some []) 0) (played log' b m) end
 replays-started start log log' a b n m (End reason code) fresh zero w = record {
@@ -114,7 +117,8 @@ both-none : (n : ℕ) → n ≡ both n 0
 both-none n = omega (arith)
 
 -- no memory for the console: nothing happened
-pub shows-nothing : (h : Header) (firmware : Loaded) (log : Reader) (old new : Ledger) (e : OpenError)
+pub shows-nothing : (h : Header) (firmware : Loaded) (log : Reader) (old new : Ledger)
+    (e : OpenError)
     → (e ≡ open_error.Failed → ⊥) → (e ≡ open_error.NoMemory → new ≡ old)
     → ShowsOver (start_of h firmware) log log old new NoMemory
 shows-nothing h firmware log old new e failed memory =
@@ -125,12 +129,20 @@ shows-nothing h firmware log old new e failed memory =
         record {
           events = [];
           last = start_of h firmware;
-          plays = record { are = tt; runs = run-none (start_of h firmware); spelled = spelled-none (ahead log) };
-          console = subst (λ (out : List ℕ). Takes (Some []) (Some []) out) (sym (start-quiet h firmware)) refl;
+          plays = record {
+            are = tt;
+            runs = run-none (start_of h firmware);
+            spelled = spelled-none
+                (ahead log);
+          };
+          console = subst (λ (out : List ℕ). Takes (Some []) (Some []) out)
+              (sym (start-quiet h firmware)) refl;
         },
         record { log = refl; console = refl },
       );
       taken = λ other. absurd (other refl);
-      opened = λ more. (let k : at new.opened ConsoleOut ≡ at old.opened ConsoleOut = ap (λ (l : Ledger). at l.opened ConsoleOut) same in absurd (omega (arith, k, more)));
-      counted = ap (λ (l : Ledger). at l.faults ConsoleOut) same ∙ both-none (at old.faults ConsoleOut);
+      opened = λ more. (let k : at new.opened ConsoleOut ≡ at old.opened ConsoleOut = ap
+          (λ (l : Ledger). at l.opened ConsoleOut) same in absurd (omega (arith, k, more)));
+      counted = ap (λ (l : Ledger). at l.faults ConsoleOut) same ∙ both-none
+          (at old.faults ConsoleOut);
     }

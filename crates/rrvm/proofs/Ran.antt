@@ -34,19 +34,25 @@ pub start-quiet : (h : Header) (firmware : Loaded) → (start_of h firmware).dev
 unfolding reset
 start-quiet h firmware = refl
 
-header-same : (r : Recording) (file : List ℕ) (f : Firmware) (h : Header) → h ≡ recording_header r f.digest
+header-same : (r : Recording) (file : List ℕ) (f : Firmware) (h : Header)
+    → h ≡ recording_header r f.digest
     → IsFirmwareOf file r.ram_mib f → h ≡ header_of r file
 header-same r file f h same is = same ∙ ap (λ digest. recording_header r digest) is.digest
 
-logged-as : (start : Loaded) (r : Recording) (file : List ℕ) (l : Ledger) → HasFront (header_of r file) start l
+logged-as : (start : Loaded) (r : Recording) (file : List ℕ) (l : Ledger)
+    → HasFront (header_of r file) start l
     → IfSome (at l.last LogOut) (λ bytes.
-    IsLogOf (start_of (header_of r file) start) (header_text (header_of r file)) bytes (at l.last ConsoleOut) l.clock)
+    IsLogOf (start_of (header_of r file) start) (header_text (header_of r file)) bytes
+    (at l.last ConsoleOut) l.clock)
 logged-as firmware r file l front =
-    is_log (start_of (header_of r file) firmware) (header_text (header_of r file)) (at l.last LogOut) (at l.last ConsoleOut) l.clock
+    is_log (start_of (header_of r file) firmware) (header_text (header_of r file))
+    (at l.last LogOut) (at l.last ConsoleOut) l.clock
     (start-quiet (header_of r file) firmware) front
 
-pub run-logged : (held : Option (List ℕ)) (r : Recording) (f : Firmware) (h : Header) (l : Ledger) → Gives held r.ram_mib f
-    → h ≡ recording_header r f.digest → HasFront h f.loaded l → IfSome held (λ file. IsLogged r file l)
+pub run-logged : (held : Option (List ℕ)) (r : Recording) (f : Firmware) (h : Header) (l : Ledger)
+    → Gives held r.ram_mib f
+    → h ≡ recording_header r f.digest → HasFront h f.loaded l
+    → IfSome held (λ file. IsLogged r file l)
 run-logged None r f h l gives same front = tt
 run-logged (Some file) r f h l gives same front = record {
   firmware = f.loaded;
@@ -55,7 +61,8 @@ run-logged (Some file) r f h l gives same front = record {
       (subst (λ (z : Header). HasFront z f.loaded l) (header-same r file f h same gives.0) front);
 }
 
-run-recorded : (held : Option (List ℕ)) (r : Recording) (f : Firmware) (h : Header) (l : Ledger) (reason code : ℕ)
+run-recorded : (held : Option (List ℕ)) (r : Recording) (f : Firmware) (h : Header) (l : Ledger)
+    (reason code : ℕ)
     → Gives held r.ram_mib f → h ≡ recording_header r f.digest → HasWhole h f.loaded l reason code
     → IfSome held (λ file. IsRecorded r file l reason code)
 run-recorded None r f h l reason code gives same whole = tt
@@ -63,18 +70,25 @@ run-recorded (Some file) r f h l reason code gives same whole = record {
   firmware = f.loaded;
   loads = gives.0.loads;
   fits = gives.1;
-  whole = subst (λ (z : Header). HasWhole z f.loaded l reason code) (header-same r file f h same gives.0) whole;
+  whole = subst (λ (z : Header). HasWhole z f.loaded l reason code)
+      (header-same r file f h same gives.0) whole;
 }
 
-run-good : (held : Option (List ℕ)) (r : Recording) (f : Firmware) → Gives held r.ram_mib f → IfSome held (λ file. IsGood r file)
+run-good : (held : Option (List ℕ)) (r : Recording) (f : Firmware) → Gives held r.ram_mib f
+    → IfSome held (λ file. IsGood r file)
 run-good None r f gives = tt
-run-good (Some file) r f gives = record { firmware = f.loaded; loads = gives.0.loads; fits = gives.1 }
+run-good (Some file) r f gives = record
+    { firmware = f.loaded; loads = gives.0.loads; fits = gives.1 }
 
-by-reason : (r : Recording) (old new : Ledger) (reason code : ℕ) (a b : Bool) → (reason == 0) ≡ a → (reason == 1) ≡ b
-    → IsOwnReason reason code → IfSome (old.names r.bios) (λ file. IsRecorded r file new reason code)
-    → Cause (Records r) old new (if a then outcome.GuestEnded code else if b then outcome.IdleForEver else outcome.BudgetReached)
+by-reason : (r : Recording) (old new : Ledger) (reason code : ℕ) (a b : Bool) → (reason == 0) ≡ a
+    → (reason == 1) ≡ b
+    → IsOwnReason reason code → IfSome (old.names r.bios)
+    (λ file. IsRecorded r file new reason code)
+    → Cause (Records r) old new (if a then outcome.GuestEnded code else if b then
+    outcome.IdleForEver else outcome.BudgetReached)
 by-reason r old new reason code true b e f own k =
-    subst (λ (z : ℕ). IfSome (old.names r.bios) (λ file. IsRecorded r file new z code)) (eqb-true reason 0 e) k
+    subst (λ (z : ℕ). IfSome (old.names r.bios) (λ file. IsRecorded r file new z code))
+    (eqb-true reason 0 e) k
 by-reason r old new reason code false true e f own k =
     let one = eqb-true reason 1 f in
     let none = own.1 (omega (arith, one)) in
@@ -88,8 +102,10 @@ by-reason r old new reason code false false e f own k =
     subst (λ (z : ℕ). IfSome (old.names r.bios) (λ file. IsRecorded r file new z 0)) two
     (subst (λ (z : ℕ). IfSome (old.names r.bios) (λ file. IsRecorded r file new reason z)) none k)
 
-ending-cause : (r : Recording) (old mid new : Ledger) (f : Firmware) (h : Header) (end : RecordingEnd) → Gives (old.names r.bios) r.ram_mib f
-    → h ≡ recording_header r f.digest → IfEnds end (λ reason code. HasWhole h f.loaded new reason code)
+ending-cause : (r : Recording) (old mid new : Ledger) (f : Firmware) (h : Header)
+    (end : RecordingEnd) → Gives (old.names r.bios) r.ram_mib f
+    → h ≡ recording_header r f.digest
+    → IfEnds end (λ reason code. HasWhole h f.loaded new reason code)
     → (end ≡ ends.CannotOpenLog → Rose mid.opening_faults new.opening_faults)
     → (end ≡ ends.ConsoleFailed → Rose (at mid.faults ConsoleOut) (at new.faults ConsoleOut))
     → (end ≡ ends.LogFailed → Rose (at mid.faults LogOut) (at new.faults LogOut))
@@ -101,15 +117,23 @@ ending-cause r old mid new f h (ends.End reason code) gives same whole a b c p q
     (run-recorded (old.names r.bios) r f h new reason code gives same whole.0)
 ending-cause r old mid new f h ends.CannotOpenLog gives same whole a b c p q s =
     subst (λ (z : ℕ). Rose z new.opening_faults) p (a refl)
-ending-cause r old mid new f h ends.ConsoleFailed gives same whole a b c p q s =
-    (subst (λ (z : ℕ). Rose z (at new.faults ConsoleOut)) q (b refl), run-good (old.names r.bios) r f gives)
-ending-cause r old mid new f h ends.LogFailed gives same whole a b c p q s =
-    (subst (λ (z : ℕ). Rose z (at new.faults LogOut)) s (c refl), run-good (old.names r.bios) r f gives)
+ending-cause r old mid new f h ends.ConsoleFailed gives same whole a b c p q s = (
+  subst (λ (z : ℕ). Rose z (at new.faults ConsoleOut)) q (b refl),
+  run-good (old.names r.bios) r
+      f gives,
+)
+ending-cause r old mid new f h ends.LogFailed gives same whole a b c p q s = (
+  subst (λ (z : ℕ). Rose z (at new.faults LogOut)) s (c refl),
+  run-good (old.names r.bios) r f
+      gives,
+)
 ending-cause r old mid new f h ends.NoMemory gives same whole a b c p q s = tt
 
-pub run-cause : (r : Recording) (old mid new : Ledger) (f : Firmware) (h : Header) (end : RecordingEnd) (result : Outcome)
+pub run-cause : (r : Recording) (old mid new : Ledger) (f : Firmware) (h : Header)
+    (end : RecordingEnd) (result : Outcome)
     → result ≡ ending_outcome_of end → Gives (old.names r.bios) r.ram_mib f
-    → h ≡ recording_header r f.digest → IfEnds end (λ reason code. HasWhole h f.loaded new reason code)
+    → h ≡ recording_header r f.digest
+    → IfEnds end (λ reason code. HasWhole h f.loaded new reason code)
     → (end ≡ ends.CannotOpenLog → Rose mid.opening_faults new.opening_faults)
     → (end ≡ ends.ConsoleFailed → Rose (at mid.faults ConsoleOut) (at new.faults ConsoleOut))
     → (end ≡ ends.LogFailed → Rose (at mid.faults LogOut) (at new.faults LogOut))
@@ -117,4 +141,5 @@ pub run-cause : (r : Recording) (old mid new : Ledger) (f : Firmware) (h : Heade
     → at mid.faults LogOut ≡ at old.faults LogOut
     → Cause (Records r) old new result
 run-cause r old mid new f h end result is gives same whole a b c p q s =
-    subst (λ (z : Outcome). Cause (Records r) old new z) (sym is) (ending-cause r old mid new f h end gives same whole a b c p q s)
+    subst (λ (z : Outcome). Cause (Records r) old new z) (sym is)
+    (ending-cause r old mid new f h end gives same whole a b c p q s)

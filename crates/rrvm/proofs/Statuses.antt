@@ -18,25 +18,30 @@ ended-eight true e = absurd cc
 ended-eight false e = absurd cc
 
 -- status 8 is a bad firmware's
-eight : (outcome : Outcome) → status_of outcome ≡ 8 → (rule : LoadError) × (outcome ≡ BadFirmware rule)
+eight : (outcome : Outcome) → status_of outcome ≡ 8
+    → (rule : LoadError) × (outcome ≡ BadFirmware rule)
 eight (BadFirmware rule) e = (rule, refl)
 eight (GuestEnded code) e = absurd (ended-eight (code == 0) e)
 eight outcome e = absurd cc
 
 not-zero : (code : ℕ) → status_of (GuestEnded code) ≡ 10 → code ≡ 0 → ⊥
-not-zero code e zero = (let z : ◌≡◌ {A = ℕ} 10 0 = sym e ∙ ap (λ (n : ℕ). status_of (GuestEnded n)) zero in absurd cc)
+not-zero code e zero = (let z : ◌≡◌ {A = ℕ} 10 0 = sym e ∙ ap (λ (n : ℕ). status_of (GuestEnded n))
+    zero in absurd cc)
 
 -- status 10 is a guest's whose code isn't 0
-ten : (outcome : Outcome) → status_of outcome ≡ 10 → (code : ℕ) × (code ≡ 0 → ⊥) × (outcome ≡ GuestEnded code)
+ten : (outcome : Outcome) → status_of outcome ≡ 10
+    → (code : ℕ) × (code ≡ 0 → ⊥) × (outcome ≡ GuestEnded code)
 ten (GuestEnded code) e = (code, not-zero code e, refl)
 ten outcome e = absurd cc
 
-some-rule : (o : Option (List ℕ)) (r : Recording) (rule : LoadError) → IfSome o (λ file. IsBadFirmware file r.ram_mib rule)
+some-rule : (o : Option (List ℕ)) (r : Recording) (rule : LoadError)
+    → IfSome o (λ file. IsBadFirmware file r.ram_mib rule)
     → IfSome o (λ file. (x : LoadError) × IsBadFirmware file r.ram_mib x)
 some-rule None r rule k = tt
 some-rule (Some file) r rule k = (rule, k)
 
-bad-firmware : (r : Reading) (old new : Ledger) (rule : LoadError) → Cause r old new (BadFirmware rule)
+bad-firmware : (r : Reading) (old new : Ledger) (rule : LoadError)
+    → Cause r old new (BadFirmware rule)
     → IfRecords r old (λ words file. (x : LoadError) × IsBadFirmware file words.ram_mib x)
 bad-firmware (Records words) old new rule k = some-rule (old.names words.bios) words rule k
 bad-firmware (Replays words) old new rule k = tt
@@ -45,13 +50,16 @@ bad-firmware Version old new rule k = tt
 bad-firmware (Bad n) old new rule k = tt
 bad-firmware Early old new rule k = tt
 
-pub bad-firmware-told : (words : List (List ℕ)) (r : Reading) (old new : Ledger) (status : ℕ) → Explained words r old new status
-    → status ≡ 8 → IfRecords r old (λ words file. (x : LoadError) × IsBadFirmware file words.ram_mib x)
+pub bad-firmware-told : (words : List (List ℕ)) (r : Reading) (old new : Ledger) (status : ℕ)
+    → Explained words r old new status
+    → status ≡ 8 → IfRecords r old (λ words file. (x : LoadError) × IsBadFirmware file words.ram_mib
+    x)
 bad-firmware-told words r old new status x e =
     let is = eight x.outcome (sym x.is_status ∙ e) in
     bad-firmware r old new is.0 (subst (λ (z : Outcome). Cause r old new z) is.1 x.cause)
 
-guest-ended : (r : Reading) (old new : Ledger) (code : ℕ) → Cause r old new (GuestEnded code) → IsEnded r old new 0 code
+guest-ended : (r : Reading) (old new : Ledger) (code : ℕ) → Cause r old new (GuestEnded code)
+    → IsEnded r old new 0 code
 guest-ended (Records words) old new code k = k
 guest-ended (Replays words) old new code k = k
 guest-ended Help old new code k = absurd k
@@ -61,15 +69,21 @@ guest-ended (Bad n) old new code (inr e) = absurd cc
 guest-ended Early old new code (inl e) = absurd cc
 guest-ended Early old new code (inr e) = absurd cc
 
-pub guest-ended-told : (words : List (List ℕ)) (r : Reading) (old new : Ledger) (status : ℕ) → Explained words r old new status
+pub guest-ended-told : (words : List (List ℕ)) (r : Reading) (old new : Ledger) (status : ℕ)
+    → Explained words r old new status
     → status ≡ 10 → (code : ℕ) × (code ≡ 0 → ⊥) × IsEnded r old new 0 code
 guest-ended-told words r old new status x e =
-    let is = ten x.outcome (sym x.is_status ∙ e) in
-    (is.0, is.1, guest-ended r old new is.0 (subst (λ (z : Outcome). Cause r old new z) is.2 x.cause))
+    let is = ten x.outcome (sym x.is_status ∙ e) in (
+      is.0,
+      is.1,
+      guest-ended r old new is.0
+          (subst (λ (z : Outcome). Cause r old new z) is.2 x.cause),
+    )
 
 -- ---- the counts of a recording that ran
 
-kept-said : (old mid new : Ledger) → new ≡ only Messages mid new → CountsKept old mid → CountsKept old new
+kept-said : (old mid new : Ledger) → new ≡ only Messages mid new → CountsKept old mid
+    → CountsKept old new
 kept-said old mid new same k =
     subst (λ (z : Ledger). CountsKept old z) (sym same) (record {
       opening = k.opening;
@@ -79,29 +93,36 @@ kept-said old mid new same k =
       replayed_log = k.replayed_log;
     })
 
-no-run : (status : ℕ) (P : Type 0) → HasRun status → (status ≡ 0 → P) → (status ≡ 10 → P) → (status ≡ 12 → P) → (status ≡ 13 → P) → P
+no-run : (status : ℕ) (P : Type 0) → HasRun status → (status ≡ 0 → P) → (status ≡ 10 → P)
+    → (status ≡ 12 → P) → (status ≡ 13 → P) → P
 no-run status P (inl e) a b c d = a e
 no-run status P (inr (inl e)) a b c d = b e
 no-run status P (inr (inr (inl e))) a b c d = c e
 no-run status P (inr (inr (inr e))) a b c d = d e
 
-ran-kept : (r : Recording) (old mid : Ledger) (outcome : Outcome) → RecordCause r old mid outcome → HasRun (status_of outcome)
+ran-kept : (r : Recording) (old mid : Ledger) (outcome : Outcome) → RecordCause r old mid outcome
+    → HasRun (status_of outcome)
     → IfRan outcome (CountsKept old mid) → CountsKept old mid
 ran-kept r old mid (GuestEnded code) k run kept = kept
 ran-kept r old mid IdleForEver k run kept = kept
 ran-kept r old mid BudgetReached k run kept = kept
 ran-kept r old mid Printed k run kept = absurd k
 ran-kept r old mid outcome k run kept =
-    no-run (status_of outcome) (CountsKept old mid) run (λ e. absurd cc) (λ e. absurd cc) (λ e. absurd cc) (λ e. absurd cc)
+    no-run (status_of outcome) (CountsKept old mid) run (λ e. absurd cc) (λ e. absurd cc)
+    (λ e. absurd cc) (λ e. absurd cc)
 
-pub unfaulted-told : (line r : Reading) (old mid new : Ledger) (outcome told : Outcome) (status : ℕ) → line ≡ r
-    → new ≡ only Messages mid new → (told ≡ outcome) ⊎ (told ≡ NoMemory) → Cause line old mid outcome
+pub unfaulted-told : (line r : Reading) (old mid new : Ledger) (outcome told : Outcome) (status : ℕ)
+    → line ≡ r
+    → new ≡ only Messages mid new → (told ≡ outcome) ⊎ (told ≡ NoMemory)
+    → Cause line old mid outcome
     → IfRan outcome (CountsKept old mid) → status ≡ status_of told
     → (words : Recording) → r ≡ Records words → HasRun status → CountsKept old new
 unfaulted-told line r old mid new outcome told status e same (inl t) cause kept is words asks run =
     kept-said old mid new same
-    (ran-kept words old mid outcome (subst (λ (z : Reading). Cause z old mid outcome) (e ∙ asks) cause)
+    (ran-kept words old mid outcome
+    (subst (λ (z : Reading). Cause z old mid outcome) (e ∙ asks) cause)
     (subst (λ (z : Outcome). HasRun (status_of z)) t (subst HasRun is run)) kept)
 unfaulted-told line r old mid new outcome told status e same (inr t) cause kept is words asks run =
     let thirty : status ≡ 30 = is ∙ ap status_of t in
-    no-run 30 (CountsKept old new) (subst HasRun thirty run) (λ f. absurd cc) (λ f. absurd cc) (λ f. absurd cc) (λ f. absurd cc)
+    no-run 30 (CountsKept old new) (subst HasRun thirty run) (λ f. absurd cc) (λ f. absurd cc)
+    (λ f. absurd cc) (λ f. absurd cc)

@@ -23,9 +23,11 @@ abbrev said : Ledger → Ledger → Ledger
 said mid new = only Messages mid new
 
 recorded-stays : (o : Option (List ℕ)) (r : Recording) (mid new : Ledger) (reason code : ℕ)
-    → IfSome o (λ file. IsRecorded r file mid reason code) → IfSome o (λ file. IsRecorded r file (said mid new) reason code)
+    → IfSome o (λ file. IsRecorded r file mid reason code)
+    → IfSome o (λ file. IsRecorded r file (said mid new) reason code)
 recorded-stays None r mid new reason code k = tt
-recorded-stays (Some file) r mid new reason code k = record { firmware = k.firmware; loads = k.loads; fits = k.fits; whole = k.whole }
+recorded-stays (Some file) r mid new reason code k = record
+    { firmware = k.firmware; loads = k.loads; fits = k.fits; whole = k.whole }
 
 replayed-stays : (o held : Option (List ℕ)) (r : Replaying) (mid new : Ledger) (reason code : ℕ)
     → IfBoth o held (λ log file. IsReplayed r log file mid reason code)
@@ -76,9 +78,11 @@ shown-stays (Some log) (Some file) r mid new k = record {
 logged-stays : (o : Option (List ℕ)) (r : Recording) (mid new : Ledger)
     → IfSome o (λ file. IsLogged r file mid) → IfSome o (λ file. IsLogged r file (said mid new))
 logged-stays None r mid new k = tt
-logged-stays (Some file) r mid new k = record { firmware = k.firmware; loads = k.loads; log = k.log }
+logged-stays (Some file) r mid new k = record
+    { firmware = k.firmware; loads = k.loads; log = k.log }
 
-logs-stay : (r : Reading) (old mid new : Ledger) → IfRecords r old (λ words file. IsLogged words file mid)
+logs-stay : (r : Reading) (old mid new : Ledger)
+    → IfRecords r old (λ words file. IsLogged words file mid)
     → IfRecords r old (λ words file. IsLogged words file (said mid new))
 logs-stay (Records words) old mid new k = logged-stays (old.names words.bios) words mid new k
 logs-stay (Replays words) old mid new k = tt
@@ -87,19 +91,23 @@ logs-stay Version old mid new k = tt
 logs-stay (Bad n) old mid new k = tt
 logs-stay Early old mid new k = tt
 
-shows-stay : (r : Reading) (old mid new : Ledger) → IfReplays r old (λ words log file. IsShown words log file mid)
+shows-stay : (r : Reading) (old mid new : Ledger)
+    → IfReplays r old (λ words log file. IsShown words log file mid)
     → IfReplays r old (λ words log file. IsShown words log file (said mid new))
 shows-stay (Records words) old mid new k = tt
-shows-stay (Replays words) old mid new k = shown-stays (old.names words.log) (old.names words.bios) words mid new k
+shows-stay (Replays words) old mid new k = shown-stays (old.names words.log) (old.names words.bios)
+    words mid new k
 shows-stay Help old mid new k = tt
 shows-stay Version old mid new k = tt
 shows-stay (Bad n) old mid new k = tt
 shows-stay Early old mid new k = tt
 
-record-stays : (r : Recording) (old mid new : Ledger) (outcome : Outcome) → RecordCause r old mid outcome
+record-stays : (r : Recording) (old mid new : Ledger) (outcome : Outcome)
+    → RecordCause r old mid outcome
     → RecordCause r old (said mid new) outcome
 record-stays r old mid new Printed k = k
-record-stays r old mid new (GuestEnded code) k = recorded-stays (old.names r.bios) r mid new 0 code k
+record-stays r old mid new (GuestEnded code) k = recorded-stays (old.names r.bios) r mid new 0 code
+    k
 record-stays r old mid new IdleForEver k = recorded-stays (old.names r.bios) r mid new 1 0 k
 record-stays r old mid new BudgetReached k = recorded-stays (old.names r.bios) r mid new 2 0 k
 record-stays r old mid new (BadWord number) k = k
@@ -117,12 +125,16 @@ record-stays r old mid new (ImagesDiffer which) k = k
 record-stays r old mid new LogTooLong k = k
 record-stays r old mid new NoMemory k = k
 
-replay-stays : (r : Replaying) (log : Option (List ℕ)) (old mid new : Ledger) (F : Type 0) (outcome : Outcome)
+replay-stays : (r : Replaying) (log : Option (List ℕ)) (old mid new : Ledger) (F : Type 0)
+    (outcome : Outcome)
     → ReplayCause r log old mid F outcome → ReplayCause r log old (said mid new) F outcome
 replay-stays r log old mid new F Printed k = k
-replay-stays r log old mid new F (GuestEnded code) k = replayed-stays log (old.names r.bios) r mid new 0 code k
-replay-stays r log old mid new F IdleForEver k = replayed-stays log (old.names r.bios) r mid new 1 0 k
-replay-stays r log old mid new F BudgetReached k = replayed-stays log (old.names r.bios) r mid new 2 0 k
+replay-stays r log old mid new F (GuestEnded code) k = replayed-stays log (old.names r.bios) r mid
+    new 0 code k
+replay-stays r log old mid new F IdleForEver k = replayed-stays log (old.names r.bios) r mid new 1 0
+    k
+replay-stays r log old mid new F BudgetReached k = replayed-stays log (old.names r.bios) r mid new 2
+    0 k
 replay-stays r log old mid new F (BadWord number) k = k
 replay-stays r log old mid new F WordsMissing k = k
 replay-stays r log old mid new F (CannotOpen role) k = k
@@ -131,14 +143,17 @@ replay-stays r log old mid new F ConsoleFailed k = k
 replay-stays r log old mid new F LogFailed k = k
 replay-stays r log old mid new F LogUnreadable k = k
 replay-stays r log old mid new F (BadFirmware rule) k = k
-replay-stays r log old mid new F RecordingStopped k = replayed-stays log (old.names r.bios) r mid new 3 0 k
+replay-stays r log old mid new F RecordingStopped k = replayed-stays log (old.names r.bios) r mid
+    new 3 0 k
 replay-stays r log old mid new F (HeaderRefused offset) k = k
-replay-stays r log old mid new F (LogRefused refusal) k = refused-stays log (old.names r.bios) r mid new refusal k
+replay-stays r log old mid new F (LogRefused refusal) k = refused-stays log (old.names r.bios) r mid
+    new refusal k
 replay-stays r log old mid new F (ImagesDiffer which) k = k
 replay-stays r log old mid new F LogTooLong k = k
 replay-stays r log old mid new F NoMemory k = k
 
-print-stays : (r : Reading) (old mid new : Ledger) (outcome : Outcome) → (IsPrinted r mid → IsPrinted r (said mid new))
+print-stays : (r : Reading) (old mid new : Ledger) (outcome : Outcome)
+    → (IsPrinted r mid → IsPrinted r (said mid new))
     → PrintCause r old mid outcome → PrintCause r old (said mid new) outcome
 print-stays r old mid new Printed f k = f k
 print-stays r old mid new (GuestEnded code) f k = k
@@ -159,10 +174,12 @@ print-stays r old mid new (ImagesDiffer which) f k = k
 print-stays r old mid new LogTooLong f k = k
 print-stays r old mid new NoMemory f k = k
 
-cause-stays : (r : Reading) (old mid new : Ledger) (outcome : Outcome) → Cause r old mid outcome → Cause r old (said mid new) outcome
+cause-stays : (r : Reading) (old mid new : Ledger) (outcome : Outcome) → Cause r old mid outcome
+    → Cause r old (said mid new) outcome
 cause-stays (Records r) old mid new outcome k = record-stays r old mid new outcome k
 cause-stays (Replays r) old mid new outcome k =
-    replay-stays r (old.names r.log) old mid new (Rose (at old.faults LogIn) (at mid.faults LogIn)) outcome k
+    replay-stays r (old.names r.log) old mid new (Rose (at old.faults LogIn) (at mid.faults LogIn))
+    outcome k
 cause-stays Help old mid new outcome k = print-stays Help old mid new outcome (λ p. p) k
 cause-stays Version old mid new outcome k = print-stays Version old mid new outcome (λ p. p) k
 cause-stays (Bad n) old mid new outcome k = k
@@ -181,17 +198,23 @@ told-cause : (r : Reading) (old mid new : Ledger) (outcome told : Outcome) → n
 told-cause r old mid new outcome told same (inl e) k =
     subst (λ (z : Outcome). Cause r old new z) (sym e)
     (subst (λ (z : Ledger). Cause r old z outcome) (sym same) (cause-stays r old mid new outcome k))
-told-cause r old mid new outcome told same (inr e) k = subst (λ (z : Outcome). Cause r old new z) (sym e) (no-memory r old new)
+told-cause r old mid new outcome told same (inr e) k = subst (λ (z : Outcome). Cause r old new z)
+    (sym e) (no-memory r old new)
 
-pub told-explained : (words : List (List ℕ)) (line r : Reading) (old mid new : Ledger) (outcome told : Outcome) (status : ℕ) → line ≡ r
-    → mid ≡ only_run old mid → new ≡ said mid new → (told ≡ outcome) ⊎ (told ≡ NoMemory) → Cause line old mid outcome
-    → (at mid.opened Messages < at new.opened Messages → TakesFront (Some []) (at new.last Messages) (line_of words line told))
+pub told-explained : (words : List (List ℕ)) (line r : Reading) (old mid new : Ledger)
+    (outcome told : Outcome) (status : ℕ) → line ≡ r
+    → mid ≡ only_run old mid → new ≡ said mid new → (told ≡ outcome) ⊎ (told ≡ NoMemory)
+    → Cause line old mid outcome
+    → (at mid.opened Messages < at new.opened Messages
+    → TakesFront (Some []) (at new.last Messages) (line_of words line told))
     → ((told ≡ NoMemory → ⊥) → Stood (at mid.faults Messages) (at new.faults Messages)
     → Takes (Some []) (at new.last Messages) (line_of words line told))
     → status ≡ status_of told → Explained words r old new status
 told-explained words line r old mid new outcome told status e run same which cause front whole is =
-    let opened : at mid.opened Messages ≡ at old.opened Messages = ap (λ (l : Ledger). at l.opened Messages) run in
-    let faults : at mid.faults Messages ≡ at old.faults Messages = ap (λ (l : Ledger). at l.faults Messages) run in
+    let opened : at mid.opened Messages ≡ at old.opened Messages = ap
+    (λ (l : Ledger). at l.opened Messages) run in
+    let faults : at mid.faults Messages ≡ at old.faults Messages = ap
+    (λ (l : Ledger). at l.faults Messages) run in
     subst (λ (z : Reading). Explained words z old new status) e (record {
       outcome = told;
       is_status = is;
@@ -202,19 +225,27 @@ told-explained words line r old mid new outcome told status e run same which cau
     })
 
 pub told-log : (line r : Reading) (old mid new : Ledger) → line ≡ r → new ≡ said mid new
-    → (at old.opened LogOut < at mid.opened LogOut → IfRecords line old (λ words file. IsLogged words file mid))
-    → at old.opened LogOut < at new.opened LogOut → IfRecords r old (λ words file. IsLogged words file new)
+    → (at old.opened LogOut < at mid.opened LogOut
+    → IfRecords line old (λ words file. IsLogged words file mid))
+    → at old.opened LogOut < at new.opened LogOut
+    → IfRecords r old (λ words file. IsLogged words file new)
 told-log line r old mid new e same logged more =
-    let opened : at new.opened LogOut ≡ at mid.opened LogOut = ap (λ (l : Ledger). at l.opened LogOut) same in
+    let opened : at new.opened LogOut ≡ at mid.opened LogOut = ap
+    (λ (l : Ledger). at l.opened LogOut) same in
     let told = logged (subst (λ (z : ℕ). at old.opened LogOut < z) opened more) in
     subst (λ (z : Reading). IfRecords z old (λ words file. IsLogged words file new)) e
-    (subst (λ (z : Ledger). IfRecords line old (λ words file. IsLogged words file z)) (sym same) (logs-stay line old mid new told))
+    (subst (λ (z : Ledger). IfRecords line old (λ words file. IsLogged words file z)) (sym same)
+    (logs-stay line old mid new told))
 
 pub told-shown : (line r : Reading) (old mid new : Ledger) → line ≡ r → new ≡ said mid new
-    → (at old.opened ConsoleOut < at mid.opened ConsoleOut → IfReplays line old (λ words log file. IsShown words log file mid))
-    → at old.opened ConsoleOut < at new.opened ConsoleOut → IfReplays r old (λ words log file. IsShown words log file new)
+    → (at old.opened ConsoleOut < at mid.opened ConsoleOut
+    → IfReplays line old (λ words log file. IsShown words log file mid))
+    → at old.opened ConsoleOut < at new.opened ConsoleOut
+    → IfReplays r old (λ words log file. IsShown words log file new)
 told-shown line r old mid new e same shows more =
-    let opened : at new.opened ConsoleOut ≡ at mid.opened ConsoleOut = ap (λ (l : Ledger). at l.opened ConsoleOut) same in
+    let opened : at new.opened ConsoleOut ≡ at mid.opened ConsoleOut = ap
+    (λ (l : Ledger). at l.opened ConsoleOut) same in
     let told = shows (subst (λ (z : ℕ). at old.opened ConsoleOut < z) opened more) in
     subst (λ (z : Reading). IfReplays z old (λ words log file. IsShown words log file new)) e
-    (subst (λ (z : Ledger). IfReplays line old (λ words log file. IsShown words log file z)) (sym same) (shows-stay line old mid new told))
+    (subst (λ (z : Ledger). IfReplays line old (λ words log file. IsShown words log file z))
+    (sym same) (shows-stay line old mid new told))

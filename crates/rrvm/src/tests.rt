@@ -1,5 +1,6 @@
 //! Recordings over a world in memory: whole runs by their logs, and each cause in its place.
 
+mod firmwares;
 mod replays;
 
 use crate::top::{Status, rrvm_main};
@@ -16,6 +17,12 @@ const LETTER: [u32; 7] = [
 const TIMER: [u32; 16] = [
     0x00000297, 0x03028293, 0x30529073, 0x02004337, 0x3e800393, 0x00732023, 0x00032223, 0x08000413,
     0x30441073, 0x30046073, 0x10500073, 0x0000006f, 0x001003b7, 0x00005337, 0x55530313, 0x0063a023,
+];
+
+/// The same, which goes on for ever in place of ending the run.
+const TIMER_LOOP: [u32; 16] = [
+    0x00000297, 0x03028293, 0x30529073, 0x02004337, 0x3e800393, 0x00732023, 0x00032223, 0x08000413,
+    0x30441073, 0x30046073, 0x10500073, 0x0000006f, 0x001003b7, 0x0000006f, 0x55530313, 0x0063a023,
 ];
 
 /// The log of LETTER with the defaults.
@@ -69,7 +76,7 @@ fn guests_have_the_events_of_their_runs(rt: HostRuntime) -> Result<(), Fail> {
     let ecall: [u32; 1] = [0x00000073];
     let wait: [u32; 1] = [0x10500073];
     let jump: [u32; 1] = [0x0000006f];
-    let cases: [(&str, &[u32], u8, &[u8]); 9] = [
+    let cases: [(&str, &[u32], u8, &[u8]); 10] = [
         (" -budget 5", &LETTER, 13, b"\0\0\0\0\x05\x06\x02\0\0\0\0"),
         (" -budget 7", &LETTER, 0, b"\0\0\0\0\x07\x06\0\0\0\0\0"),
         (
@@ -99,10 +106,17 @@ fn guests_have_the_events_of_their_runs(rt: HostRuntime) -> Result<(), Fail> {
             b"\0\0\0\0\x0b\x05\x01\x01\0\0\0\0\x04\x06\0\0\0\0\0",
         ),
         (
-            " -budget 3",
+            " -budget 10",
             &[],
             13,
-            b"\0\0\0\0\x01\x02\0\0\0\0\x01\x02\0\0\0\0\x01\x02\x06\x02\0\0\0\0",
+            b"\0\0\0\0\x01\x02\0\0\0\0\x01\x02\0\0\0\0\x01\x02\0\0\0\0\x01\x02\0\0\0\0\x01\x02\0\0\0\0\x01\x02\
+            \0\0\0\0\x01\x02\0\0\0\0\x01\x02\0\0\0\0\x01\x02\0\0\0\0\x01\x02\x06\x02\0\0\0\0",
+        ),
+        (
+            " -budget 20",
+            &TIMER_LOOP,
+            13,
+            b"\0\0\0\0\x0b\x05\x01\x01\0\0\0\0\x09\x06\x02\0\0\0\0",
         ),
     ];
     for (more, guest, code, events) in cases {

@@ -11,7 +11,8 @@ use Rattle.rrvm.proofs.replaying.replay_log.Goals as goal
 pub returns-in-Some-clause-cause : goal.returns-in-Some-clause-cause
 returns-in-Some-clause-cause g c =
     let k = c.in-Ok.ensures.header in
-    words-cause (replay_asked c.args.words.now) (ahead c.args.log.now) (ahead c.header.new.self) c.in-Ok.header
+    words-cause (replay_asked c.args.words.now) (ahead c.args.log.now) (ahead c.header.new.self)
+    c.in-Ok.header
     (g.W.World.ledger c.args.world.now) (g.W.World.ledger c.args.world.now)
     (Rose c.args.log.now.faults c.header.new.self.faults) c.in-Some.difference
     k.1 k.2.bytes (sym c.word_difference.ensures ∙ c.in-Some.is)
@@ -23,16 +24,20 @@ returns-in-Ok-read_image-clause-cause g c =
     let old = g.W.World.ledger c.args.world.now in
     let new = g.W.World.ledger c.show.new.world in
     let failed = Rose c.args.log.now.faults c.show.new.log.faults in
-    let begins : Begins words (ahead c.args.log.now) (old.names words.bios) c.in-Ok.header c.in-Ok-read_image.firmware (ahead c.header.new.self) = record {
+    let begins : Begins words (ahead c.args.log.now) (old.names words.bios) c.in-Ok.header
+    c.in-Ok-read_image.firmware (ahead c.header.new.self) = record {
       is = k.1;
       passed = k.2.bytes;
       words = sym c.word_difference.ensures ∙ c.in-None.is;
       image = c.in-Ok-read_image.ensures.ok;
       disk = c.in-Ok-read_image.ensures.disk;
     } in
-    as-outcome words (ahead c.args.log.now) old new failed c.replay_outcome.result (replay_outcome_of c.show.result) c.replay_outcome.ensures
-    (played-cause words (ahead c.args.log.now) c.in-Ok.header c.in-Ok-read_image.firmware c.header.new.self c.show.new.log
-    old (g.W.World.ledger c.read_image.new.world) new failed c.show.result begins c.show.ensures.shown
+    as-outcome words (ahead c.args.log.now) old new failed c.replay_outcome.result
+    (replay_outcome_of c.show.result) c.replay_outcome.ensures
+    (played-cause words (ahead c.args.log.now) c.in-Ok.header c.in-Ok-read_image.firmware
+    c.header.new.self c.show.new.log
+    old (g.W.World.ledger c.read_image.new.world) new failed c.show.result begins
+    c.show.ensures.shown
     (ap (λ (l : Ledger). at l.faults ConsoleOut) c.in-Ok-read_image.ensures.rest)
     (λ rose. subst (λ (n : ℕ). Rose n c.show.new.log.faults) k.0.faults rose))
 
@@ -41,15 +46,18 @@ returns-in-Ok-read_image-clause-shown g c = λ more.
     let k = c.in-Ok.ensures.header in
     let words = replay_asked c.args.words.now in
     let old = g.W.World.ledger c.args.world.now in
-    let begins : Begins words (ahead c.args.log.now) (old.names words.bios) c.in-Ok.header c.in-Ok-read_image.firmware (ahead c.header.new.self) = record {
+    let begins : Begins words (ahead c.args.log.now) (old.names words.bios) c.in-Ok.header
+    c.in-Ok-read_image.firmware (ahead c.header.new.self) = record {
       is = k.1;
       passed = k.2.bytes;
       words = sym c.word_difference.ensures ∙ c.in-None.is;
       image = c.in-Ok-read_image.ensures.ok;
       disk = c.in-Ok-read_image.ensures.disk;
     } in
-    played-shown words (ahead c.args.log.now) c.in-Ok.header c.in-Ok-read_image.firmware c.header.new.self c.show.new.log
-    old (g.W.World.ledger c.read_image.new.world) (g.W.World.ledger c.show.new.world) c.show.result begins c.show.ensures.shown
+    played-shown words (ahead c.args.log.now) c.in-Ok.header c.in-Ok-read_image.firmware
+    c.header.new.self c.show.new.log
+    old (g.W.World.ledger c.read_image.new.world) (g.W.World.ledger c.show.new.world) c.show.result
+    begins c.show.ensures.shown
     (ap (λ (l : Ledger). at l.opened ConsoleOut) c.in-Ok-read_image.ensures.rest) more
 
 pub returns-in-Err-read_image-clause-cause : goal.returns-in-Err-read_image-clause-cause
@@ -59,7 +67,8 @@ returns-in-Err-read_image-clause-cause g c =
     let old = g.W.World.ledger c.args.world.now in
     let new = g.W.World.ledger c.read_image.new.world in
     let failed = Rose c.args.log.now.faults c.header.new.self.faults in
-    as-outcome words (ahead c.args.log.now) old new failed c.image_outcome.result (image_outcome_of c.in-Err-read_image.fault) c.image_outcome.ensures
+    as-outcome words (ahead c.args.log.now) old new failed c.image_outcome.result
+    (image_outcome_of c.in-Err-read_image.fault) c.image_outcome.ensures
     (image-cause words (ahead c.args.log.now) (ahead c.header.new.self) c.in-Ok.header
     old new failed c.in-Err-read_image.fault
     k.1 k.2.bytes (sym c.word_difference.ensures ∙ c.in-None.is)

@@ -14,8 +14,10 @@ returns-in-Err-clause-shown g c =
 
 pub returns-clause-shown : goal.returns-clause-shown
 returns-clause-shown g c =
-    shows-over (start_of c.args.header.now c.args.firmware.now) c.args.log.now c.replay_one-end.new.log
-    (g.W.World.ledger c.args.world.now) (g.W.World.ledger c.sink.new.self) (g.W.World.ledger c.take_sink.new.self)
+    shows-over (start_of c.args.header.now c.args.firmware.now) c.args.log.now
+    c.replay_one-end.new.log
+    (g.W.World.ledger c.args.world.now) (g.W.World.ledger c.sink.new.self)
+    (g.W.World.ledger c.take_sink.new.self)
     (g.W.Sink.Sink.taken c.new-out.result) (g.W.Sink.Sink.taken c.replay_one-end.new.out)
     (g.W.Sink.Sink.faults c.new-out.result) (g.W.Sink.Sink.faults c.replay_one-end.new.out)
     c.replay_one-end.result

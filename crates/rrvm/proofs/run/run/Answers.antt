@@ -11,9 +11,12 @@ pub returns-clause-cause : goal.returns-clause-cause
 returns-clause-cause g c =
     let old = g.W.World.ledger c.args.world.now in
     let mid = g.W.World.ledger c.read_firmware.new.world in
-    let gives = subst (λ (mib : ℕ). Gives (old.names c.args.words.now.bios.now) mib c.in-Ok.firmware) c.from-ram_mib.ensures c.in-Ok.ensures.ok in
-    run-cause (asked c.args.words.now) old mid (g.W.World.ledger c.record.new.world) c.in-Ok.firmware c.header-header.result
-    c.record.result c.ending_outcome.result c.ending_outcome.ensures gives c.header-header.ensures c.record.ensures.whole
+    let gives = subst (λ (mib : ℕ). Gives (old.names c.args.words.now.bios.now) mib
+    c.in-Ok.firmware) c.from-ram_mib.ensures c.in-Ok.ensures.ok in
+    run-cause (asked c.args.words.now) old mid (g.W.World.ledger c.record.new.world)
+    c.in-Ok.firmware c.header-header.result
+    c.record.result c.ending_outcome.result c.ending_outcome.ensures gives c.header-header.ensures
+    c.record.ensures.whole
     c.record.ensures.unopened c.record.ensures.console_fault c.record.ensures.log_fault
     c.in-Ok.ensures.kept.opening
     (ap (λ (l : Ledger). at l.faults ConsoleOut) c.in-Ok.ensures.rest)
@@ -25,7 +28,11 @@ returns-clause-log g c = λ more.
     let old = g.W.World.ledger c.args.world.now in
     let mid = g.W.World.ledger c.read_firmware.new.world in
     let new = g.W.World.ledger c.record.new.world in
-    let gives = subst (λ (mib : ℕ). Gives (old.names c.args.words.now.bios.now) mib c.in-Ok.firmware) c.from-ram_mib.ensures c.in-Ok.ensures.ok in
-    let opened : at mid.opened LogOut ≡ at old.opened LogOut = ap (λ (l : Ledger). at l.opened LogOut) c.in-Ok.ensures.rest in
-    run-logged (old.names c.args.words.now.bios.now) (asked c.args.words.now) c.in-Ok.firmware c.header-header.result new gives
-    c.header-header.ensures (c.record.ensures.front (subst (λ (n : ℕ). n < at new.opened LogOut) (sym opened) more))
+    let gives = subst (λ (mib : ℕ). Gives (old.names c.args.words.now.bios.now) mib
+    c.in-Ok.firmware) c.from-ram_mib.ensures c.in-Ok.ensures.ok in
+    let opened : at mid.opened LogOut ≡ at old.opened LogOut = ap
+    (λ (l : Ledger). at l.opened LogOut) c.in-Ok.ensures.rest in
+    run-logged (old.names c.args.words.now.bios.now) (asked c.args.words.now) c.in-Ok.firmware
+    c.header-header.result new gives
+    c.header-header.ensures (c.record.ensures.front
+    (subst (λ (n : ℕ). n < at new.opened LogOut) (sym opened) more))

@@ -7,49 +7,60 @@ use Rattle.rrvm.proofs.top.rrvm_main.Goals as goal
 
 pub returns-clause-explained : goal.returns-clause-explained
 returns-clause-explained g c =
-    told-explained (map string_bytes c.args.words.now) (seen_line c.read_line-line.result) (line_in c.args.words.now)
-    (g.W.World.ledger c.args.world.now) (g.W.World.ledger c.answer_uncounted-outcome.new.world) (g.W.World.ledger c.tell-told.new.world)
+    told-explained (map string_bytes c.args.words.now) (seen_line c.read_line-line.result)
+    (line_in c.args.words.now)
+    (g.W.World.ledger c.args.world.now) (g.W.World.ledger c.answer_uncounted-outcome.new.world)
+    (g.W.World.ledger c.tell-told.new.world)
     c.answer_uncounted-outcome.result c.tell-told.result c.status.result
     c.read_line-line.ensures.value c.answer_uncounted-outcome.ensures.rest c.tell-told.ensures.rest
-    c.tell-told.ensures.which c.answer_uncounted-outcome.ensures.cause c.tell-told.ensures.front c.tell-told.ensures.whole
+    c.tell-told.ensures.which c.answer_uncounted-outcome.ensures.cause c.tell-told.ensures.front
+    c.tell-told.ensures.whole
     c.status.ensures
 
 pub returns-clause-log : goal.returns-clause-log
 returns-clause-log g c =
     told-log (seen_line c.read_line-line.result) (line_in c.args.words.now)
-    (g.W.World.ledger c.args.world.now) (g.W.World.ledger c.answer_uncounted-outcome.new.world) (g.W.World.ledger c.tell-told.new.world)
+    (g.W.World.ledger c.args.world.now) (g.W.World.ledger c.answer_uncounted-outcome.new.world)
+    (g.W.World.ledger c.tell-told.new.world)
     c.read_line-line.ensures.value c.tell-told.ensures.rest c.answer_uncounted-outcome.ensures.log
 
 pub returns-clause-shown : goal.returns-clause-shown
 returns-clause-shown g c =
     told-shown (seen_line c.read_line-line.result) (line_in c.args.words.now)
-    (g.W.World.ledger c.args.world.now) (g.W.World.ledger c.answer_uncounted-outcome.new.world) (g.W.World.ledger c.tell-told.new.world)
+    (g.W.World.ledger c.args.world.now) (g.W.World.ledger c.answer_uncounted-outcome.new.world)
+    (g.W.World.ledger c.tell-told.new.world)
     c.read_line-line.ensures.value c.tell-told.ensures.rest c.answer_uncounted-outcome.ensures.shown
 
 pub returns-clause-replays : goal.returns-clause-replays
 returns-clause-replays g c =
-    replays-told (map string_bytes c.args.words.now) (line_in c.args.words.now) (g.W.World.ledger c.args.world.now)
+    replays-told (map string_bytes c.args.words.now) (line_in c.args.words.now)
+    (g.W.World.ledger c.args.world.now)
     (g.W.World.ledger c.tell-told.new.world) c.status.result (returns-clause-explained g c)
 
 pub returns-clause-refuses : goal.returns-clause-refuses
 returns-clause-refuses g c =
-    refuses-told (map string_bytes c.args.words.now) (line_in c.args.words.now) (g.W.World.ledger c.args.world.now)
+    refuses-told (map string_bytes c.args.words.now) (line_in c.args.words.now)
+    (g.W.World.ledger c.args.world.now)
     (g.W.World.ledger c.tell-told.new.world) c.status.result (returns-clause-explained g c)
 
 pub returns-clause-bad_firmware : goal.returns-clause-bad_firmware
 returns-clause-bad_firmware g c =
     bad-firmware-told (map string_bytes c.args.words.now) (line_in c.args.words.now)
-    (g.W.World.ledger c.args.world.now) (g.W.World.ledger c.tell-told.new.world) c.status.result (returns-clause-explained g c)
+    (g.W.World.ledger c.args.world.now) (g.W.World.ledger c.tell-told.new.world) c.status.result
+    (returns-clause-explained g c)
 
 pub returns-clause-guest : goal.returns-clause-guest
 returns-clause-guest g c =
     guest-ended-told (map string_bytes c.args.words.now) (line_in c.args.words.now)
-    (g.W.World.ledger c.args.world.now) (g.W.World.ledger c.tell-told.new.world) c.status.result (returns-clause-explained g c)
+    (g.W.World.ledger c.args.world.now) (g.W.World.ledger c.tell-told.new.world) c.status.result
+    (returns-clause-explained g c)
 
 pub returns-clause-unfaulted : goal.returns-clause-unfaulted
 returns-clause-unfaulted g c = λ r asks run.
     unfaulted-told (seen_line c.read_line-line.result) (line_in c.args.words.now)
-    (g.W.World.ledger c.args.world.now) (g.W.World.ledger c.answer_uncounted-outcome.new.world) (g.W.World.ledger c.tell-told.new.world)
+    (g.W.World.ledger c.args.world.now) (g.W.World.ledger c.answer_uncounted-outcome.new.world)
+    (g.W.World.ledger c.tell-told.new.world)
     c.answer_uncounted-outcome.result c.tell-told.result c.status.result
-    c.read_line-line.ensures.value c.tell-told.ensures.rest c.tell-told.ensures.which c.answer_uncounted-outcome.ensures.cause
+    c.read_line-line.ensures.value c.tell-told.ensures.rest c.tell-told.ensures.which
+    c.answer_uncounted-outcome.ensures.cause
     c.answer_uncounted-outcome.ensures.kept c.status.ensures r asks run
