@@ -271,7 +271,12 @@ fn images_and_words_must_be_the_headers(rt: HostRuntime) -> Result<(), Fail> {
         let said = format!(in alloc; "rrvm: images differ: {differs}\n")?;
         replays(&rt, line, &mut world, 21, b"", said.as_str())?;
     }
-    Ok(())
+    // The guest would print another letter.
+    let mut guest = LETTER;
+    guest[1] = 0x04200313;
+    let mut world = world_with(alloc, &guest, &LETTER_LOG)?;
+    let said = "rrvm: images differ: firmware\n";
+    replays(&rt, REPLAY, &mut world, 21, b"", said)
 }
 
 #[test]
