@@ -2,6 +2,7 @@
 use Rattle.std.specs.Prelude.{ℕ, List, [], ◌∷◌, ◌==◌, Option, Some, None, if◌then◌else◌}
 use Rattle.rv_decode.specs.declared.op.Op.{Op}
 use Rattle.rv_decode.specs.declared.format.Format.{Format}
+use Rattle.std.specs.Option.{option_map}
 use Rattle.rv_decode.specs.Table.{Row}
 
 -- the operation and format of the first row with these bits
@@ -14,3 +15,7 @@ keyed (row ∷ rows) key =
 abbrev pub meaning : Option Row → Option (Op × Format)
 meaning None = None
 meaning (Some row) = Some (row.op, row.format)
+
+-- an operation with the format of its opcode, where there is one
+abbrev pub of_format : Format → Option Op → Option (Op × Format)
+of_format format found = option_map (λ op. (op, format)) found

@@ -1,5 +1,6 @@
 //! The fields of an instruction word.
-ghost use Rattle.std.specs.Prelude.{◌≡◌, ◌+◌, ◌^◌, ◌<◌, ◌≤◌};
+ghost use Rattle.std.specs.Prelude.{◌≡◌, ◌+◌, ◌^◌, ◌<◌, ◌≤◌, IfSome};
+ghost use Rattle.std.specs.Option.{option_map};
 ghost use Rattle.rv_decode.specs.Fields.{field as field_of, signed as signed_of, fields as fields_of, IsWithin, imm_i as imm_i_of, imm_s as imm_s_of, imm_b as imm_b_of, imm_u as imm_u_of, imm_j as imm_j_of};
 
 use crate::format::Format;
@@ -7,7 +8,8 @@ use crate::ins::Ins;
 use crate::op::Op;
 
 /// `count` bits of the word from bit `low` on.
-fn field(w: u32, low: u32, count: u32) -> u32
+#[inline(always)]
+pub fn field(w: u32, low: u32, count: u32) -> u32
     requires places { low + count ≤ 32 }
     requires some { low < 32 }
     requires not_all { count < 32 }
@@ -18,6 +20,7 @@ fn field(w: u32, low: u32, count: u32) -> u32
 }
 
 /// A number of `count` bits as a signed one.
+#[inline(always)]
 fn signed(x: u32, count: u32) -> i32
     requires count { count < 32 }
     requires positive { 0 < count }
@@ -32,6 +35,7 @@ fn signed(x: u32, count: u32) -> i32
 }
 
 /// The immediate of the format I.
+#[inline(always)]
 fn imm_i(w: u32) -> i32
     ensures { result ≡ imm_i_of w }
 {
@@ -39,6 +43,7 @@ fn imm_i(w: u32) -> i32
 }
 
 /// The immediate of the format S.
+#[inline(always)]
 fn imm_s(w: u32) -> i32
     ensures { result ≡ imm_s_of w }
 {
@@ -46,6 +51,7 @@ fn imm_s(w: u32) -> i32
 }
 
 /// The immediate of the format B, which is even.
+#[inline(always)]
 fn imm_b(w: u32) -> i32
     ensures { result ≡ imm_b_of w }
 {
@@ -55,6 +61,7 @@ fn imm_b(w: u32) -> i32
 }
 
 /// The immediate of the format U, at its place in the word.
+#[inline(always)]
 fn imm_u(w: u32) -> i32
     ensures { result ≡ imm_u_of w }
 {
@@ -62,6 +69,7 @@ fn imm_u(w: u32) -> i32
 }
 
 /// The immediate of the format J, which is even.
+#[inline(always)]
 fn imm_j(w: u32) -> i32
     ensures { result ≡ imm_j_of w }
 {
@@ -70,10 +78,20 @@ fn imm_j(w: u32) -> i32
     signed(high + low, 21)
 }
 
+/// The instruction of the operation, if there is one, with the fields that stand in the word.
+#[inline(always)]
+pub fn instruction(op: Option<Op>, format: Format, w: u32) -> Option<Ins>
+    ensures fields { result ≡ option_map (λ op. fields_of op format w) op }
+    ensures registers { IfSome result IsWithin }
+{
+    Some(fields(op?, format, w))
+}
+
 /// The instruction whose fields stand in the word.
+#[inline(always)]
 #[rattlefmt::skip]
 #[tactic(auto, unfolding(crate::specs::Fields::fields))]
-pub fn fields(op: Op, format: Format, w: u32) -> Ins
+fn fields(op: Op, format: Format, w: u32) -> Ins
     ensures fields { result ≡ fields_of op format w }
     ensures registers { IsWithin result }
 {

@@ -7,9 +7,8 @@ mod decoder;
 mod fields;
 mod format;
 mod ins;
-mod keys;
-mod lookup;
 mod op;
+mod opcodes;
 
 pub use decoder::decode;
 pub use ins::Ins;
