@@ -27,8 +27,14 @@ const PRINTS_A: [u8; 28] = [
 /// `ecall`
 const CALLS: [u8; 4] = [0x73, 0x00, 0x00, 0x00];
 
-/// The number of the control register `mepc`.
+// The numbers of control registers.
 const MEPC: u16 = 0x341;
+
+const MCAUSE: u16 = 0x342;
+
+const MCYCLE: u16 = 0xb00;
+
+const MINSTRET: u16 = 0xb02;
 
 /// A machine of 1 MiB with a raw firmware.
 fn started(alloc: Global, firmware: &[u8], budget: u64) -> Result<Machine, Fail>
@@ -104,6 +110,11 @@ fn call<L: Ledger>(rt: &impl Abort, alloc: Global, blank: Blank) -> Result<(), F
     assert_eq!(rt; machine.run(1, &mut steps)?, 1);
     assert_eq!(rt; machine.accept(&Event::Exception, &[]), Ok(()));
     assert_eq!(rt; machine.due(), Due::End { reason: 2, code: 0 });
+    let inputs = machine.devices.inputs();
+    for (at, word) in [(MCAUSE, 1), (MEPC, 0), (MCYCLE, 2), (MINSTRET, 0)] {
+        let read = machine.hart.csrs.read(at, Mode::M, &inputs);
+        assert_eq!(rt; read, Ok(word), "of {at:x}");
+    }
     Ok(())
 }
 
