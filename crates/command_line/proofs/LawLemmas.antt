@@ -1,11 +1,14 @@
 -- The laws on lines of words.
-use Rattle.std.proofs.Common.{◌≡◌, ℕ, ◌+◌, suc, ◌<◌, Bool, true, false, List, [], ◌∷◌, ◌++◌, Option, Some, None, length, take, refl, sym, ap, ◌∙◌, subst, arith, codes, ◌⊎◌, inl, inr, if◌then◌else◌}
+use Rattle.std.proofs.Common.{◌≡◌, ℕ, ◌+◌, suc, ◌<◌, ◌≤◌, Bool, true, false, List, [], ◌∷◌, ◌++◌, Option, Some, None, length, map, get_or, take, refl, sym, ap, ◌∙◌, subst, arith, codes, ◌⊎◌, inl, inr, if◌then◌else◌}
 use Rattle.std.specs.Prelude.{⊤}
 use Rattle.std.specs.Str.{bytes_eq}
 use Rattle.std.proofs.lemmas.Slice.Eq.{bytes_eq-Decides}
+use Rattle.std.specs.Fmt.{decimal}
+use Rattle.command_line.specs.Number.{number_in}
 use Rattle.command_line.specs.Icount.{Icount, RecordInto, ReplayFrom}
-use Rattle.command_line.specs.Words.{Given, given_none, Key, with_option, key_of, Reading, Records, Replays, Help, Version, Bad, Early, Step, reading, follow, pair_step, value_step, at_end, request, alone, reading_of, IsBadLine}
+use Rattle.command_line.specs.Words.{Given, given_none, Key, with_option, key_of, Reading, Records, Replays, Demonstrates, Help, Version, Bad, Early, Step, reading, follow, pair_step, value_step, at_end, request, alone, demo_letters, demo_reading, reading_of, IsBadLine}
 use Rattle.command_line.specs.Grammar.{Choice, key_word, line_words, Asks, IsLine, GoesOn, IsFirstBad}
+use Rattle.command_line.proofs.NumberLemmas.{number-range, number-sound, number-complete}
 use Rattle.command_line.proofs.StepLemmas.{Together, Steps, steps_from_adds, adds_from_steps}
 use Rattle.command_line.proofs.GrammarLemmas.{Named, IsRequest, none_given, key_of-word, Continues, continues-nil, continues-pair, continues-key, continues-back, begins, no_key, no_value, read_cases}
 
@@ -19,17 +22,36 @@ differ : (w x : List ℕ) → bytes_eq w x ≡ false → w ≡ x → ⊥
 differ w x e p = let t = (bytes_eq-Decides w x).1 p in let h : false ≡ true = sym e ∙ t in cc
 
 first_word : (w : List ℕ) (ws : List (List ℕ)) (P : Reading → Type 0) → (w ≡ codes "--help" → P (alone Help ws)) → (w ≡ codes "--version" → P (alone Version ws))
-    → ((w ≡ codes "--help" → ⊥) → (w ≡ codes "--version" → ⊥) → P (reading given_none 0 (w ∷ ws))) → P (reading_of (w ∷ ws))
-first_word w ws P help version plain =
+    → (w ≡ codes "demo" → P (demo_reading ws)) → ((w ≡ codes "--help" → ⊥) → (w ≡ codes "--version" → ⊥) → (w ≡ codes "demo" → ⊥) → P (reading given_none 0 (w ∷ ws)))
+    → P (reading_of (w ∷ ws))
+first_word w ws P help version demo plain =
     branch (bytes_eq w (codes "--help")) _ _ P (λ e. help ((bytes_eq-Decides w (codes "--help")).0 e))
     (λ d. branch (bytes_eq w (codes "--version")) _ _ P (λ e. version ((bytes_eq-Decides w (codes "--version")).0 e))
-    (λ e. plain (differ w (codes "--help") d) (differ w (codes "--version") e)))
+    (λ e. branch (bytes_eq w (codes "demo")) _ _ P (λ f. demo ((bytes_eq-Decides w (codes "demo")).0 f))
+    (λ f. plain (differ w (codes "--help") d) (differ w (codes "--version") e) (differ w (codes "demo") f))))
 
 no_key-help : (key : Key) → codes "--help" ≡ key_word key → ⊥
 no_key-help key p = let h : None ≡ Some key = ap (key_of given_none) p ∙ key_of-word given_none key (none_given key) in cc
 
 no_key-version : (key : Key) → codes "--version" ≡ key_word key → ⊥
 no_key-version key p = let h : None ≡ Some key = ap (key_of given_none) p ∙ key_of-word given_none key (none_given key) in cc
+
+no_key-demo : (key : Key) → codes "demo" ≡ key_word key → ⊥
+no_key-demo key p = let h : None ≡ Some key = ap (key_of given_none) p ∙ key_of-word given_none key (none_given key) in cc
+
+help_no_demo : (w : List ℕ) → w ≡ codes "--help" → w ≡ codes "demo" → ⊥
+help_no_demo w p q = cc
+
+version_no_demo : (w : List ℕ) → w ≡ codes "--version" → w ≡ codes "demo" → ⊥
+version_no_demo w p q = cc
+
+-- words whose first stands for nothing else are options
+pub plain_reads : {A : Type 0} (f : A → List ℕ) (xs : List A) (x : A) (w : List ℕ) → 1 ≤ length xs → x ≡ get_or xs 0 x → w ≡ f x → (w ≡ codes "--help" → ⊥) → (w ≡ codes "--version" → ⊥)
+    → (w ≡ codes "demo" → ⊥) → reading given_none 0 (map f xs) ≡ reading_of (map f xs)
+plain_reads f [] x w h p q b c d = absurd (omega arith)
+plain_reads f (y ∷ ys) x w h p q b c d =
+    let same : w ≡ f y = q ∙ ap f p in
+    first_word (f y) (map f ys) (λ r. reading given_none 0 (f y ∷ map f ys) ≡ r) (λ e. absurd (b (same ∙ e))) (λ e. absurd (c (same ∙ e))) (λ e. absurd (d (same ∙ e))) (λ s t u. refl)
 
 -- Lines of options.
 
@@ -52,20 +74,22 @@ asks_from_asked words m h =
 asked_key : (w v : List ℕ) (rest : List (List ℕ)) (m : Reading) → Asked given_none (w ∷ v ∷ rest) m → (key : Key) × (w ≡ key_word key)
 asked_key w v rest m h = let b = begins given_none w (v ∷ rest) h.choices h.last h.spelled h.steps in (b.0, b.1.0)
 
--- an allowed line of two words and more begins with a key
-line_key : (w v : List ℕ) (rest : List (List ℕ)) (m : Reading) → IsLine (w ∷ v ∷ rest) m → (key : Key) × (w ≡ key_word key)
-line_key w v rest (Records r) h = asked_key w v rest (Records r) (asked_from_asks (w ∷ v ∷ rest) (Records r) h)
-line_key w v rest (Replays r) h = asked_key w v rest (Replays r) (asked_from_asks (w ∷ v ∷ rest) (Replays r) h)
-line_key w v rest Help h = absurd (cc)
-line_key w v rest Version h = absurd (cc)
-line_key w v rest (Bad k) h = absurd h
-line_key w v rest Early h = absurd h
+-- an allowed line of two words and more begins with a key, where it is no demonstration
+line_key : (w v : List ℕ) (rest : List (List ℕ)) (m : Reading) → (w ≡ codes "demo" → ⊥) → IsLine (w ∷ v ∷ rest) m → (key : Key) × (w ≡ key_word key)
+line_key w v rest (Records r) d h = asked_key w v rest (Records r) (asked_from_asks (w ∷ v ∷ rest) (Records r) h)
+line_key w v rest (Replays r) d h = asked_key w v rest (Replays r) (asked_from_asks (w ∷ v ∷ rest) (Replays r) h)
+line_key w v rest (Demonstrates n) d h = let spelled = h.0 in absurd (d (cc))
+line_key w v rest Help d h = absurd (cc)
+line_key w v rest Version d h = absurd (cc)
+line_key w v rest (Bad k) d h = absurd h
+line_key w v rest Early d h = absurd h
 
 -- Lines that are read.
 
 abbrev ReadsAs : Given → ℕ → List (List ℕ) → Reading → Type 0
 ReadsAs g k words (Records r) = Asked g words (Records r)
 ReadsAs g k words (Replays r) = Asked g words (Replays r)
+ReadsAs g k words (Demonstrates n) = ⊥
 ReadsAs g k words Help = ⊥
 ReadsAs g k words Version = ⊥
 ReadsAs g k words (Bad n) = ⊤
@@ -91,6 +115,7 @@ asked-pair g m w v words key r n e h = record {
 more_reads : (g m : Given) (k : ℕ) (w v : List ℕ) (words : List (List ℕ)) (key : Key) (r : Reading) → Named g w key → with_option g key v ≡ Some m → ReadsAs m (k + 2) words r → ReadsAs g k (w ∷ v ∷ words) r
 more_reads g m k w v words key (Records r) n e h = asked-pair g m w v words key (Records r) n e h
 more_reads g m k w v words key (Replays r) n e h = asked-pair g m w v words key (Replays r) n e h
+more_reads g m k w v words key (Demonstrates j) n e h = h
 more_reads g m k w v words key Help n e h = h
 more_reads g m k w v words key Version n e h = h
 more_reads g m k w v words key (Bad j) n e h = tt
@@ -99,6 +124,7 @@ more_reads g m k w v words key Early n e h = tt
 plain_sound : (words : List (List ℕ)) (r : Reading) → ReadsAs given_none 0 words r → IsBadLine r ⊎ IsLine words r
 plain_sound words (Records r) h = inr (asks_from_asked words (Records r) h)
 plain_sound words (Replays r) h = inr (asks_from_asked words (Replays r) h)
+plain_sound words (Demonstrates n) h = absurd h
 plain_sound words Help h = absurd h
 plain_sound words Version h = absurd h
 plain_sound words (Bad k) h = inl tt
@@ -112,6 +138,20 @@ version_sound : (w : List ℕ) (ws : List (List ℕ)) → w ≡ codes "--version
 version_sound w [] p = inr (ap (λ x. x ∷ []) p)
 version_sound w (v ∷ vs) p = inl tt
 
+demo_spelled : (w v : List ℕ) (n : ℕ) → w ≡ codes "demo" → number_in 1 2000 v ≡ Some n → IsLine (w ∷ v ∷ []) (Demonstrates n)
+demo_spelled w v n p e =
+    let s = number-sound 1 2000 v n (omega (arith, number-range 1 2000 v n e)) e in
+    (ap (λ x. x ∷ v ∷ []) p ∙ ap (λ x. codes "demo" ∷ x ∷ []) s.2, s.0, s.1)
+
+letters_sound : (w v : List ℕ) (vs : List (List ℕ)) (o : Option ℕ) → w ≡ codes "demo" → number_in 1 2000 v ≡ o → IsBadLine (demo_letters o vs) ⊎ IsLine (w ∷ v ∷ vs) (demo_letters o vs)
+letters_sound w v vs None p e = inl tt
+letters_sound w v [] (Some n) p e = inr (demo_spelled w v n p e)
+letters_sound w v (u ∷ us) (Some n) p e = inl tt
+
+demo_sound : (w : List ℕ) (ws : List (List ℕ)) → w ≡ codes "demo" → IsBadLine (demo_reading ws) ⊎ IsLine (w ∷ ws) (demo_reading ws)
+demo_sound w [] p = inl tt
+demo_sound w (v ∷ vs) p = letters_sound w v vs (number_in 1 2000 v) p refl
+
 pub options_sound : (words : List (List ℕ)) → IsBadLine (reading given_none 0 words) ⊎ IsLine words (reading given_none 0 words)
 options_sound words =
     plain_sound words (reading given_none 0 words)
@@ -119,7 +159,7 @@ options_sound words =
 
 pub line_sound : (words : List (List ℕ)) → IsBadLine (reading_of words) ⊎ IsLine words (reading_of words)
 line_sound [] = inl tt
-line_sound (w ∷ ws) = first_word w ws (λ r. IsBadLine r ⊎ IsLine (w ∷ ws) r) (help_sound w ws) (version_sound w ws) (λ d e. options_sound (w ∷ ws))
+line_sound (w ∷ ws) = first_word w ws (λ r. IsBadLine r ⊎ IsLine (w ∷ ws) r) (help_sound w ws) (version_sound w ws) (demo_sound w ws) (λ c d e. options_sound (w ∷ ws))
 
 -- the words of good options are read as what they ask for
 line_reads : (os : List Choice) (g h : Given) (k : ℕ) → Steps g os h → reading g k (line_words os) ≡ at_end h
@@ -132,7 +172,7 @@ options_read : (os : List Choice) (h : Given) (m : Reading) → Steps given_none
 options_read [] h m a e r = absurd (subst IsRequest (sym (ap at_end a ∙ e)) r)
 options_read (o ∷ os) h m a e r =
     first_word (key_word o.key) (o.value ∷ line_words os) (λ x. x ≡ m) (λ p. absurd (no_key-help o.key (sym p))) (λ p. absurd (no_key-version o.key (sym p)))
-    (λ c d. line_reads (o ∷ os) given_none h 0 a ∙ e)
+    (λ p. absurd (no_key-demo o.key (sym p))) (λ b c d. line_reads (o ∷ os) given_none h 0 a ∙ e)
 
 asked_reads : (words : List (List ℕ)) (m : Reading) → IsRequest m → Asked given_none words m → reading_of words ≡ m
 asked_reads words m r h = ap reading_of (sym h.spelled) ∙ options_read h.choices h.last m h.steps h.asks r
@@ -140,6 +180,7 @@ asked_reads words m r h = ap reading_of (sym h.spelled) ∙ options_read h.choic
 pub line_complete : (words : List (List ℕ)) (m : Reading) → IsLine words m → reading_of words ≡ m
 line_complete words (Records r) h = asked_reads words (Records r) tt (asked_from_asks words (Records r) h)
 line_complete words (Replays r) h = asked_reads words (Replays r) tt (asked_from_asks words (Replays r) h)
+line_complete words (Demonstrates n) h = ap reading_of h.0 ∙ ap (λ o. demo_letters o []) (number-complete 1 2000 n (omega (arith, h.2)) h.1 h.2)
 line_complete words Help h = ap reading_of h
 line_complete words Version h = ap reading_of h
 line_complete words (Bad k) h = absurd h
@@ -203,6 +244,7 @@ found_bad words =
 request_line : (words : List (List ℕ)) (m : Reading) → IsRequest m → Asked given_none words m → IsLine words m
 request_line words (Records r) q h = asks_from_asked words (Records r) h
 request_line words (Replays r) q h = asks_from_asked words (Replays r) h
+request_line words (Demonstrates n) q h = absurd q
 request_line words Help q h = absurd q
 request_line words Version q h = absurd q
 request_line words (Bad k) q h = absurd q
@@ -218,23 +260,24 @@ goes_on words h = record {
 asked_goes_on : (words rest : List (List ℕ)) (m : Reading) → IsRequest m → Asked given_none (words ++ rest) m → Continues given_none words
 asked_goes_on words rest m q h = record { rest = rest; choices = h.choices; last = h.last; meaning = m; spelled = h.spelled; steps = h.steps; asks = h.asks; request = q }
 
-plain_line : (w : List ℕ) (words rest : List (List ℕ)) (m : Reading) → (w ≡ codes "--help" → ⊥) → (w ≡ codes "--version" → ⊥) → IsLine (w ∷ words ++ rest) m → Continues given_none (w ∷ words)
-plain_line w words rest (Records r) c d h = asked_goes_on (w ∷ words) rest (Records r) tt (asked_from_asks (w ∷ words ++ rest) (Records r) h)
-plain_line w words rest (Replays r) c d h = asked_goes_on (w ∷ words) rest (Replays r) tt (asked_from_asks (w ∷ words ++ rest) (Replays r) h)
-plain_line w words rest Help c d h = absurd (c (cc))
-plain_line w words rest Version c d h = absurd (d (cc))
-plain_line w words rest (Bad k) c d h = absurd h
-plain_line w words rest Early c d h = absurd h
+plain_line : (w : List ℕ) (words rest : List (List ℕ)) (m : Reading) → (w ≡ codes "--help" → ⊥) → (w ≡ codes "--version" → ⊥) → (w ≡ codes "demo" → ⊥) → IsLine (w ∷ words ++ rest) m → Continues given_none (w ∷ words)
+plain_line w words rest (Records r) b c d h = asked_goes_on (w ∷ words) rest (Records r) tt (asked_from_asks (w ∷ words ++ rest) (Records r) h)
+plain_line w words rest (Replays r) b c d h = asked_goes_on (w ∷ words) rest (Replays r) tt (asked_from_asks (w ∷ words ++ rest) (Replays r) h)
+plain_line w words rest (Demonstrates n) b c d h = let spelled = h.0 in absurd (d (cc))
+plain_line w words rest Help b c d h = absurd (b (cc))
+plain_line w words rest Version b c d h = absurd (c (cc))
+plain_line w words rest (Bad k) b c d h = absurd h
+plain_line w words rest Early b c d h = absurd h
 
-plain_bad : (w : List ℕ) (ws : List (List ℕ)) → (w ≡ codes "--help" → ⊥) → (w ≡ codes "--version" → ⊥) → (k : ℕ) → reading given_none 0 (w ∷ ws) ≡ Bad k → IsFirstBad (w ∷ ws) k
-plain_bad w ws c d k e =
+plain_bad : (w : List ℕ) (ws : List (List ℕ)) → (w ≡ codes "--help" → ⊥) → (w ≡ codes "--version" → ⊥) → (w ≡ codes "demo" → ⊥) → (k : ℕ) → reading given_none 0 (w ∷ ws) ≡ Bad k → IsFirstBad (w ∷ ws) k
+plain_bad w ws b c d k e =
     let h = found_bad (w ∷ ws) k e in
-    let b = h.2 in
+    let found = h.2 in
     let same : h.0 ≡ k = omega (arith, h.1) in
     subst (IsFirstBad (w ∷ ws)) same (record {
-      within = b.within;
-      before = goes_on (take h.0 (w ∷ ws)) b.before;
-      bad = λ q. b.bad (plain_line w (take h.0 ws) q.rest q.meaning c d q.line);
+      within = found.within;
+      before = goes_on (take h.0 (w ∷ ws)) found.before;
+      bad = λ q. found.bad (plain_line w (take h.0 ws) q.rest q.meaning b c d q.line);
     })
 
 help_bad : (w : List ℕ) (ws : List (List ℕ)) → w ≡ codes "--help" → (k : ℕ) → alone Help ws ≡ Bad k → IsFirstBad (w ∷ ws) k
@@ -244,7 +287,7 @@ help_bad w (v ∷ vs) p k e =
     subst (IsFirstBad (w ∷ v ∷ vs)) same (record {
       within = omega arith;
       before = record { rest = []; meaning = Help; line = ap (λ x. x ∷ []) p };
-      bad = λ q. let b = line_key w v q.rest q.meaning q.line in no_key-help b.0 (sym p ∙ b.1);
+      bad = λ q. let b = line_key w v q.rest q.meaning (help_no_demo w p) q.line in no_key-help b.0 (sym p ∙ b.1);
     })
 
 version_bad : (w : List ℕ) (ws : List (List ℕ)) → w ≡ codes "--version" → (k : ℕ) → alone Version ws ≡ Bad k → IsFirstBad (w ∷ ws) k
@@ -254,12 +297,53 @@ version_bad w (v ∷ vs) p k e =
     subst (IsFirstBad (w ∷ v ∷ vs)) same (record {
       within = omega arith;
       before = record { rest = []; meaning = Version; line = ap (λ x. x ∷ []) p };
-      bad = λ q. let b = line_key w v q.rest q.meaning q.line in no_key-version b.0 (sym p ∙ b.1);
+      bad = λ q. let b = line_key w v q.rest q.meaning (version_no_demo w p) q.line in no_key-version b.0 (sym p ∙ b.1);
     })
+
+-- `demo` goes on with a number
+demo_goes_on : (w : List ℕ) → w ≡ codes "demo" → GoesOn (w ∷ [])
+demo_goes_on w p = record { rest = decimal 1 ∷ []; meaning = Demonstrates 1; line = (ap (λ x. x ∷ decimal 1 ∷ []) p, omega arith, omega arith) }
+
+-- the second word of a demonstration is its number, and the last
+demo_line : (w v : List ℕ) (rest : List (List ℕ)) (m : Reading) → w ≡ codes "demo" → IsLine (w ∷ v ∷ rest) m → (n : ℕ) × (number_in 1 2000 v ≡ Some n) × (rest ≡ [])
+demo_line w v rest (Records r) p h =
+    let b = asked_key w v rest (Records r) (asked_from_asks (w ∷ v ∷ rest) (Records r) h) in absurd (no_key-demo b.0 (sym p ∙ b.1))
+demo_line w v rest (Replays r) p h =
+    let b = asked_key w v rest (Replays r) (asked_from_asks (w ∷ v ∷ rest) (Replays r) h) in absurd (no_key-demo b.0 (sym p ∙ b.1))
+demo_line w v rest (Demonstrates n) p h =
+    let spelled = h.0 in
+    let number : v ≡ decimal n = cc in
+    let last : rest ≡ [] = cc in
+    (n, ap (number_in 1 2000) number ∙ number-complete 1 2000 n (omega (arith, h.2)) h.1 h.2, last)
+demo_line w v rest Help p h = absurd (cc)
+demo_line w v rest Version p h = absurd (cc)
+demo_line w v rest (Bad k) p h = absurd h
+demo_line w v rest Early p h = absurd h
+
+letters_bad : (w v : List ℕ) (vs : List (List ℕ)) (o : Option ℕ) → w ≡ codes "demo" → number_in 1 2000 v ≡ o → (k : ℕ) → demo_letters o vs ≡ Bad k → IsFirstBad (w ∷ v ∷ vs) k
+letters_bad w v vs None p n k e =
+    let same : 1 ≡ k = cc in
+    subst (IsFirstBad (w ∷ v ∷ vs)) same (record {
+      within = omega arith;
+      before = demo_goes_on w p;
+      bad = λ q. let b = demo_line w v q.rest q.meaning p q.line in let h : None ≡ Some b.0 = sym n ∙ b.1 in cc;
+    })
+letters_bad w v [] (Some m) p n k e = absurd (cc)
+letters_bad w v (u ∷ us) (Some m) p n k e =
+    let same : 2 ≡ k = cc in
+    subst (IsFirstBad (w ∷ v ∷ u ∷ us)) same (record {
+      within = omega arith;
+      before = record { rest = []; meaning = Demonstrates m; line = demo_spelled w v m p n };
+      bad = λ q. let b = demo_line w v (u ∷ q.rest) q.meaning p q.line in let h : u ∷ q.rest ≡ [] = b.2 in cc;
+    })
+
+demo_bad : (w : List ℕ) (ws : List (List ℕ)) → w ≡ codes "demo" → (k : ℕ) → demo_reading ws ≡ Bad k → IsFirstBad (w ∷ ws) k
+demo_bad w [] p k e = absurd (cc)
+demo_bad w (v ∷ vs) p k e = letters_bad w v vs (number_in 1 2000 v) p refl k e
 
 pub first_bad : (words : List (List ℕ)) (k : ℕ) → reading_of words ≡ Bad k → IsFirstBad words k
 first_bad [] k e = absurd (cc)
-first_bad (w ∷ ws) k e = first_word w ws (λ r. (n : ℕ) → r ≡ Bad n → IsFirstBad (w ∷ ws) n) (help_bad w ws) (version_bad w ws) (plain_bad w ws) k e
+first_bad (w ∷ ws) k e = first_word w ws (λ r. (n : ℕ) → r ≡ Bad n → IsFirstBad (w ∷ ws) n) (help_bad w ws) (version_bad w ws) (demo_bad w ws) (plain_bad w ws) k e
 
 -- Words that are missing.
 
@@ -278,7 +362,16 @@ alone_whole : (m : Reading) (ws : List (List ℕ)) → (m ≡ Early → ⊥) →
 alone_whole m [] n e = n e
 alone_whole m (v ∷ vs) n e = cc
 
+letters_whole : (o : Option ℕ) (ws : List (List ℕ)) → demo_letters o ws ≡ Early → ⊥
+letters_whole None ws e = cc
+letters_whole (Some n) [] e = cc
+letters_whole (Some n) (v ∷ vs) e = cc
+
+demo_missing : (w : List ℕ) (ws : List (List ℕ)) → w ≡ codes "demo" → demo_reading ws ≡ Early → GoesOn (w ∷ ws)
+demo_missing w [] p e = demo_goes_on w p
+demo_missing w (v ∷ vs) p e = absurd (letters_whole (number_in 1 2000 v) vs e)
+
 pub missing : (words : List (List ℕ)) → reading_of words ≡ Early → GoesOn words
 missing [] e = record { rest = codes "--help" ∷ []; meaning = Help; line = refl }
 missing (w ∷ ws) e = first_word w ws (λ r. r ≡ Early → GoesOn (w ∷ ws)) (λ p q. absurd (alone_whole Help ws (λ h. cc) q)) (λ p q. absurd (alone_whole Version ws (λ h. cc) q))
-    (λ c d. plain_missing w ws) e
+    (demo_missing w ws) (λ b c d. plain_missing w ws) e

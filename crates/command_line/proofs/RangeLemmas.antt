@@ -3,7 +3,7 @@ use Rattle.std.proofs.Common.{◌≡◌, ℕ, ◌≤◌, ◌^◌, List, [], ◌�
 use Rattle.std.specs.Prelude.{IfSome, unwrap_or}
 use Rattle.command_line.specs.Number.{number_in}
 use Rattle.command_line.specs.Icount.{Icount, RecordInto, ReplayFrom, name_of, icount_of}
-use Rattle.command_line.specs.Words.{Given, given_none, Key, IcountKey, BiosKey, RamKey, BudgetKey, SliceKey, with_value, Reading, Records, Replays, Help, Version, Bad, Early, request, reading, IsBadLine, IsLineInRange}
+use Rattle.command_line.specs.Words.{Given, given_none, Key, IcountKey, BiosKey, RamKey, BudgetKey, SliceKey, with_value, Reading, Records, Replays, Demonstrates, Help, Version, Bad, Early, request, reading, IsBadLine, IsLineInRange}
 use Rattle.command_line.specs.Grammar.{Choice, Adds, Asks, IsLine, shift_of}
 use Rattle.command_line.proofs.NumberLemmas.{number-range}
 use Rattle.command_line.proofs.StepLemmas.{mapped}
@@ -62,6 +62,7 @@ asks_range words m h =
 line_range : (words : List (List ℕ)) (m : Reading) → IsLine words m → IsLineInRange m
 line_range words (Records r) h = asks_range words (Records r) h
 line_range words (Replays r) h = asks_range words (Replays r) h
+line_range words (Demonstrates n) h = (h.1, h.2)
 line_range words Help h = tt
 line_range words Version h = tt
 line_range words (Bad k) h = tt
@@ -70,6 +71,7 @@ line_range words Early h = tt
 bad_range : (m : Reading) → IsBadLine m → IsLineInRange m
 bad_range (Records r) h = absurd h
 bad_range (Replays r) h = absurd h
+bad_range (Demonstrates n) h = absurd h
 bad_range Help h = tt
 bad_range Version h = tt
 bad_range (Bad k) h = tt

@@ -4,7 +4,7 @@ use Rattle.std.specs.declared.option.Option.{Option}
 use Rattle.std.specs.Fmt.{decimal}
 use Rattle.std.specs.List.{join_with_byte}
 use Rattle.command_line.specs.Icount.{Icount, RecordInto, ReplayFrom}
-use Rattle.command_line.specs.Words.{Given, given_none, Key, IcountKey, BiosKey, RamKey, BudgetKey, SliceKey, go_together, with_value, at_end, Reading, Records, Replays, Help, Version, Bad, Early}
+use Rattle.command_line.specs.Words.{Given, given_none, Key, IcountKey, BiosKey, RamKey, BudgetKey, SliceKey, go_together, with_value, at_end, Reading, Records, Replays, Demonstrates, Help, Version, Bad, Early}
 
 -- the shift, which a replay may leave out
 abbrev pub shift_of : Icount → Option ℕ
@@ -81,6 +81,7 @@ pub record Asks (g : Given) (words : List (List ℕ)) (meaning : Reading) : Type
 abbrev pub IsLine : List (List ℕ) → Reading → Type 0
 IsLine words (Records r) = Asks given_none words (Records r)
 IsLine words (Replays r) = Asks given_none words (Replays r)
+IsLine words (Demonstrates n) = (words ≡ codes "demo" ∷ decimal n ∷ []) × (1 ≤ n) × (n ≤ 2000)
 IsLine words Help = words ≡ codes "--help" ∷ []
 IsLine words Version = words ≡ codes "--version" ∷ []
 IsLine words (Bad k) = ⊥

@@ -1,7 +1,7 @@
 -- What the code's values say of a line of words.
 use Rattle.std.specs.Prelude.{List, option_copied, option_map, map, String, string_bytes}
 use Rattle.command_line.specs.declared.line.Line.{Line}
-use Rattle.command_line.specs.declared.line.Line.TheVariants.{Record as RecordLine, Replay as ReplayLine, Help as HelpLine, Version as VersionLine, BadWord, WordsMissing}
+use Rattle.command_line.specs.declared.line.Line.TheVariants.{Record as RecordLine, Replay as ReplayLine, Demo as DemoLine, Help as HelpLine, Version as VersionLine, BadWord, WordsMissing}
 use Rattle.command_line.specs.declared.icount.Icount.{Icount as IcountValue}
 use Rattle.command_line.specs.declared.icount.Icount.TheVariants.{Record as RecordValue, Replay as ReplayValue}
 use Rattle.command_line.specs.declared.icount.Mode.{Mode as ModeValue}
@@ -11,7 +11,7 @@ use Rattle.command_line.specs.declared.options.Options.{Options}
 use Rattle.command_line.specs.declared.options.OptionKey.{OptionKey}
 use Rattle.command_line.specs.declared.options.OptionKey.TheVariants.{Icount as IcountOption, Bios as BiosOption, Ram as RamOption, Budget as BudgetOption, Slice as SliceOption}
 use Rattle.command_line.specs.Icount.{Icount, RecordInto, ReplayFrom, Mode, RecordMode, ReplayMode, Settings}
-use Rattle.command_line.specs.Words.{Given, Reading, Records, Replays, Help, Version, Bad, Early, Key, IcountKey, BiosKey, RamKey, BudgetKey, SliceKey, reading_of}
+use Rattle.command_line.specs.Words.{Given, Reading, Records, Replays, Demonstrates, Help, Version, Bad, Early, Key, IcountKey, BiosKey, RamKey, BudgetKey, SliceKey, reading_of, quiet_reading}
 
 abbrev pub seen_line : Line → Reading
 seen_line (RecordLine r) = Records (record {
@@ -28,6 +28,7 @@ seen_line (ReplayLine r) = Replays (record {
   log = r.log.now;
   bios = r.bios.now;
 })
+seen_line (DemoLine n) = Demonstrates n
 seen_line HelpLine = Help
 seen_line VersionLine = Version
 seen_line (BadWord k) = Bad k
@@ -67,3 +68,7 @@ seen_key SliceOption = SliceKey
 -- what the words of a command line are
 abbrev pub line_in : {Z : Type 0} → List (String Z) → Reading
 line_in words = reading_of (map string_bytes words)
+
+-- what the words of a quiet command are
+abbrev pub quiet_in : {Z : Type 0} → List (String Z) → Reading
+quiet_in words = quiet_reading (map string_bytes words)

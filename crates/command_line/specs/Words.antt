@@ -1,4 +1,5 @@
--- The words of the command line: options in any order, each at most once, or one word alone.
+-- The words of the command line: options in any order, each at most once, one word alone, or
+-- a demonstration.
 use Rattle.std.specs.Prelude.{ℕ, ◌+◌, ◌<◌, ◌≤◌, ◌^◌, ◌&&◌, ◌||◌, Bool, true, false, not, List, [], ◌∷◌, Some, None, IfSome, codes, is_none, if◌then◌else◌, option_map, option_and_then, unwrap_or, ⊤}
 use Rattle.std.specs.declared.option.Option.{Option}
 use Rattle.std.specs.Str.{bytes_eq}
@@ -25,6 +26,7 @@ pub record Replaying : Type 0 where
 pub data Reading : Type 0 where
   Records : Recording → Reading
   Replays : Replaying → Reading
+  Demonstrates : ℕ → Reading
   Help : Reading
   Version : Reading
   Bad : ℕ → Reading
@@ -148,18 +150,36 @@ abbrev pub alone : Reading → List (List ℕ) → Reading
 alone what [] = what
 alone what (word ∷ rest) = Bad 1
 
+-- the number of letters stands alone
+abbrev pub demo_letters : Option ℕ → List (List ℕ) → Reading
+demo_letters None rest = Bad 1
+demo_letters (Some n) [] = Demonstrates n
+demo_letters (Some n) (word ∷ rest) = Bad 2
+
+-- what the words after `demo` are: how many letters the guest prints, and no more words
+abbrev pub demo_reading : List (List ℕ) → Reading
+demo_reading [] = Early
+demo_reading (word ∷ rest) = demo_letters (number_in 1 2000 word) rest
+
 -- what the words of a command line are
 abbrev pub reading_of : List (List ℕ) → Reading
 reading_of [] = Early
 reading_of (word ∷ rest) =
     if bytes_eq word (codes "--help") then alone Help rest else
     if bytes_eq word (codes "--version") then alone Version rest else
+    if bytes_eq word (codes "demo") then demo_reading rest else
     reading given_none 0 (word ∷ rest)
+
+-- what the words of a quiet command are, whose first word is `demo`: any other first word is bad
+abbrev pub quiet_reading : List (List ℕ) → Reading
+quiet_reading [] = Early
+quiet_reading (word ∷ rest) = if bytes_eq word (codes "demo") then demo_reading rest else Bad 0
 
 -- the words leave the grammar
 abbrev pub IsBadLine : Reading → Type 0
 IsBadLine (Records r) = ⊥
 IsBadLine (Replays r) = ⊥
+IsBadLine (Demonstrates n) = ⊥
 IsBadLine Help = ⊥
 IsBadLine Version = ⊥
 IsBadLine (Bad k) = ⊤
@@ -185,4 +205,5 @@ pub record IsReplayInRange (r : Replaying) : Type 0 where
 abbrev pub IsLineInRange : Reading → Type 0
 IsLineInRange (Records r) = IsInRange r
 IsLineInRange (Replays r) = IsReplayInRange r
+IsLineInRange (Demonstrates n) = (1 ≤ n) × (n ≤ 2000)
 IsLineInRange other = ⊤

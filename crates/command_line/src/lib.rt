@@ -1,9 +1,9 @@
 //! The words of rrvm's command line: what they ask for, or the first of them that is bad.
 //!
 //! `rrvm -icount shift=N,rr=record,rrfile=LOG -bios FILE [-m MIB] [-budget T] [-slice S]` records
-//! a run, `rrvm -icount rr=replay,rrfile=LOG[,shift=N] -bios FILE [-m MIB]` replays one, and
-//! `--help` or `--version` stands alone. The options come in any order, and so do the keys of
-//! `-icount`, each of them once.
+//! a run, `rrvm -icount rr=replay,rrfile=LOG[,shift=N] -bios FILE [-m MIB]` replays one,
+//! `rrvm demo N` demonstrates a guest that prints N letters, and `--help` or `--version` stands
+//! alone. The options come in any order, and so do the keys of `-icount`, each of them once.
 #![tactic(auto)]
 
 mod icount;
@@ -15,4 +15,4 @@ mod options;
 mod tests;
 
 pub use laws::{first_bad_word_law, icount_law, line_law, missing_words_law, number_law};
-pub use line::{Line, RecordWords, ReplayWords, read_line};
+pub use line::{Line, RecordWords, ReplayWords, read_line, read_quiet};

@@ -1,9 +1,14 @@
 //! What the words of a command line are.
 ghost use Rattle.std.specs.Prelude.{◌≡◌, ◌+◌, ◌<◌, ◌^◌, length, map, string_bytes};
-ghost use Rattle.command_line.specs.Words.{reading, alone, NamesWord, IsLineInRange};
-ghost use Rattle.command_line.specs.Line.{seen_line, seen_given, line_in};
+ghost use Rattle.command_line.specs.Number.{number_in};
+ghost use Rattle.command_line.specs.Words.{reading, alone, demo_reading, NamesWord, IsLineInRange};
+ghost use Rattle.command_line.specs.Line.{seen_line, seen_given, line_in, quiet_in};
 
+use crate::number::number;
 use crate::options::Options;
+
+// A demonstration prints at most so many letters.
+const LETTERS_MAX: u64 = 2000;
 
 /// What words ask to record.
 #[derive(Clone, Copy, Debug, PartialEq, Eq)]
@@ -40,6 +45,8 @@ pub struct ReplayWords<'a> {
 pub enum Line<'a> {
     Record(RecordWords<'a>),
     Replay(ReplayWords<'a>),
+    /// A demonstration by the guest that prints so many letters, 1 to 2000.
+    Demo(u32),
     Help,
     Version,
     /// The number of the first word, from 0, that no allowed line goes on with.
@@ -55,6 +62,28 @@ fn alone<'a>(line: Line<'a>, rest: &[String]) -> Line<'a>
         line
     } else {
         Line::BadWord(1)
+    }
+}
+
+fn letters(word: &str) -> Option<u32>
+    ensures { result ≡ number_in 1 2000 word.now }
+{
+    Some(number(word, 1, LETTERS_MAX)? as u32)
+}
+
+/// What the words after `demo` are.
+fn read_demo<'a>(rest: &[String]) -> Line<'a>
+    ensures value { seen_line result ≡ demo_reading (map string_bytes rest.now) }
+    ensures named { NamesWord (seen_line result) (length rest.now + 1) }
+    ensures range { IsLineInRange (seen_line result) }
+{
+    let [word, more @ ..] = rest else {
+        return Line::WordsMissing;
+    };
+    match letters(word.as_str()) {
+        None => Line::BadWord(1),
+        Some(count) if more.is_empty() => Line::Demo(count),
+        Some(_) => Line::BadWord(2),
     }
 }
 
@@ -92,6 +121,23 @@ pub fn read_line<'a>(words: &'a [String]) -> Line<'a>
     match first.as_str() {
         "--help" => alone(Line::Help, rest),
         "--version" => alone(Line::Version, rest),
+        "demo" => read_demo(rest),
         _ => read_from(Options::none(), 0, words),
+    }
+}
+
+/// What the words of a quiet command are, the program's own name left out. A quiet command is
+/// `demo`, and needs no threads; another first word is bad.
+pub fn read_quiet<'a>(words: &'a [String]) -> Line<'a>
+    ensures value { seen_line result ≡ quiet_in words.now }
+    ensures named { NamesWord (seen_line result) (length words.now) }
+    ensures range { IsLineInRange (seen_line result) }
+{
+    let [first, rest @ ..] = words else {
+        return Line::WordsMissing;
+    };
+    match first.as_str() {
+        "demo" => read_demo(rest),
+        _ => Line::BadWord(0),
     }
 }

@@ -92,6 +92,11 @@ fn a_line_that_leaves_the_grammar_is_refused_at_its_first_bad_word(
         ("b", 0),
         ("--help -bios", 1),
         ("-bios b --help", 2),
+        ("demo 0", 1),
+        ("demo 2001", 1),
+        ("demo 01", 1),
+        ("demo x", 1),
+        ("demo 5 x", 2),
     ] {
         let given = words(rt.alloc(), line)?;
         assert_eq!(rt; read_line(&given), Line::BadWord(bad), "at {line}");
@@ -106,6 +111,7 @@ fn a_line_that_ends_early_misses_words(rt: HostRuntime) -> Result<(), Fail> {
         "-bios b",
         "-bios b -icount",
         "-icount rr=replay,rrfile=a -m 1",
+        "demo",
     ] {
         let given = words(rt.alloc(), line)?;
         assert_eq!(rt; read_line(&given), Line::WordsMissing, "at {line}");
@@ -125,5 +131,25 @@ fn help_is_read_alone(rt: HostRuntime) -> Result<(), Fail> {
 fn version_is_read_alone(rt: HostRuntime) -> Result<(), Fail> {
     let version = words(rt.alloc(), "--version")?;
     assert_eq!(rt; read_line(&version), Line::Version);
+    Ok(())
+}
+
+#[test]
+fn a_demonstration_gives_its_number_of_letters(rt: HostRuntime) -> Result<(), Fail> {
+    for (line, letters) in [("demo 1", 1), ("demo 2000", 2000)] {
+        let given = words(rt.alloc(), line)?;
+        assert_eq!(rt; read_line(&given), Line::Demo(letters), "at {line}");
+        assert_eq!(rt; read_quiet(&given), Line::Demo(letters), "at {line}");
+    }
+    Ok(())
+}
+
+#[test]
+fn a_quiet_command_is_a_demonstration(rt: HostRuntime) -> Result<(), Fail> {
+    for (line, bad) in [("-bios b", 0), ("--help", 0), ("demo 2001", 1)] {
+        let given = words(rt.alloc(), line)?;
+        assert_eq!(rt; read_quiet(&given), Line::BadWord(bad), "at {line}");
+    }
+    assert_eq!(rt; read_quiet(&[]), Line::WordsMissing);
     Ok(())
 }
