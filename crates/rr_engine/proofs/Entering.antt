@@ -1,6 +1,6 @@
 -- An event that the machine took and the log got.
 use Rattle.std.proofs.Common.{◌≡◌, ℕ, Bool, true, false, List, [], ◌∷◌, ◌++◌, refl, sym, ap, ◌∙◌, subst, append-nil, inl, inr}
-use Rattle.std.specs.Prelude.{Some, Result, Ok, Err}
+use Rattle.std.specs.Prelude.{Some, None, Result, Ok, Err}
 use Rattle.std.specs.declared.option.Option.{Option}
 use Rattle.outside.specs.Told.{Takes, TakesFront}
 use Rattle.outside.proofs.ToldLemmas.{Takes-refl, TakesFront-none}
@@ -12,10 +12,15 @@ use Rattle.board.specs.State.{State}
 use Rattle.board.specs.Runs.{step}
 use Rattle.board.specs.Accept.{accept}
 use Rattle.rr_engine.specs.declared.parts.Break.{Break}
-use Rattle.rr_engine.specs.declared.parts.Break.TheVariants.{ConsoleWrite, LogWrite, NoMemory}
-use Rattle.rr_engine.specs.Stand.{Stand, before_value}
-use Rattle.rr_engine.specs.Recording.{clock_value, clock_values, Appended, Gave, Goes, Notes, Enters, IsNoTurn}
-use Rattle.rr_engine.proofs.Joining.{run-none, run-one}
+use Rattle.rr_engine.specs.declared.parts.Break.TheVariants.{ConsoleRead, ConsoleWrite, LogWrite, NoMemory}
+use Rattle.std.specs.Io.KnownBytes.{Consumes}
+use Rattle.std.proofs.KnownBytes.{Consumes-nil}
+use Rattle.io_workers.specs.Intake.{Intake, Gives}
+use Rattle.rr_engine.specs.Stand.{Stand}
+use Rattle.rr_engine.specs.Input.{typed, unread, Hears, Heard, Read}
+use Rattle.rr_engine.specs.Recording.{clock_value, clock_values, Appended, Gave, Recorded, Goes, Notes, Enters, IsNoTurn}
+use Rattle.rr_engine.proofs.Hearing.{heard-none, heard-weak, heard-lost, heard-opened, read-none, read-weak, read-lost, gives-read, gives-heard}
+use Rattle.rr_engine.proofs.Joining.{run-none, run-one, Begun}
 
 -- an accepted event that is no INSTRUCTION is a step
 pub step-accept : (g h : State) (e : Event) → IsNoTurn e → accept g e ≡ Some h → step g e ≡ Some h
@@ -44,12 +49,25 @@ gave-one w a b e t = record {
 one-text : (e : Event) → texts (e ∷ []) ≡ text e
 one-text e = append-nil (text e)
 
+-- what an event had of the input and of the clock, from what the stand had before it
+pub record Had (p : Stand) (owed : Bool) (input : Intake) (gave : Option (List ℕ)) (e : Event) : Type 0 where
+  pub value : Takes gave p.gave (clock_value e)
+  pub read : Read true input.left p.input.left (e ∷ [])
+  pub faults : p.input.faults ≡ input.faults
+  pub part : Heard false owed (unread input) (e ∷ []) (unread p.input)
+  pub lost : Heard false owed (unread input) [] (unread p.input)
+
+-- a stand with another input and clock before it
+abbrev pub earlier : Stand → Intake → Option (List ℕ) → Stand
+earlier p input gave = record p { input = input; gave = gave }
+
 -- the machine took the event, and the log got it as far as its sink took it
-noted : (p : Stand) (m : State) (w : Writer) (e : Event) (before : Option (List ℕ)) (x : Result (Unit {0}) Break)
-    → step p.machine e ≡ Some m → IsEvent e → Takes before p.gave (clock_value e)
-    → Notes (record p { machine = m }) (record p { machine = m; log = w }) (text e) x
-    → Goes (before_value p before) (record p { machine = m; log = w }) x
-noted p m w e before (Ok done) s is t n = record {
+noted : (p : Stand) (o : Bool) (i : Intake) (before : Option (List ℕ)) (m : State) (w : Writer) (e : Event)
+    → (h : Had p o i before e) → step p.machine e ≡ Some m → IsEvent e
+    → Notes (record p { machine = m }) (record p { machine = m; log = w }) (text e) (Ok tt)
+    → Heard true o (unread i) (e ∷ []) (unread p.input)
+    → Recorded true o (earlier p i before) (record p { machine = m; log = w })
+noted p o i before m w e h s is n heard = record {
   events = e ∷ [];
   bytes = [];
   last = m;
@@ -60,25 +78,37 @@ noted p m w e before (Ok done) s is t n = record {
   log_faults = n.2;
   console = Takes-refl p.console;
   console_faults = refl;
-  clock = gave-one true before p.gave e t;
+  read = h.read;
+  heard = heard;
+  input_faults = h.faults;
+  clock = gave-one true before p.gave e h.value;
 }
-noted p m w e before (Err LogWrite) s is t n = (
+
+-- the machine took the event, and the log's sink failed, or memory was refused
+unnoted : (p : Stand) (o : Bool) (i : Intake) (before : Option (List ℕ)) (m : State) (w : Writer) (e : Event) (b : Break)
+    → (h : Had p o i before e) → step p.machine e ≡ Some m → IsEvent e
+    → Notes (record p { machine = m }) (record p { machine = m; log = w }) (text e) (Err b)
+    → Goes o (earlier p i before) (record p { machine = m; log = w }) (Err b)
+unnoted p o i before m w e LogWrite h s is n = (
   record {
     events = e ∷ [];
     bytes = [];
     last = m;
     are = (is, tt);
     runs = run-one p.machine m e s;
-    stands = λ same. refl;
+    stands = λ same. absurd cc;
     log = subst (λ (z : List ℕ). TakesFront p.log.taken w.taken (p.log.unsent.held ++ z)) (sym (one-text e)) n.0;
     log_faults = tt;
     console = TakesFront-none p.console [];
     console_faults = tt;
-    clock = gave-one false before p.gave e t;
+    read = read-weak i.left p.input.left (e ∷ []) h.read;
+    heard = h.part;
+    input_faults = tt;
+    clock = gave-one false before p.gave e h.value;
   },
   n.2,
 )
-noted p m w e before (Err NoMemory) s is t n = (
+unnoted p o i before m w e NoMemory h s is n = (
   record {
     events = [];
     bytes = [];
@@ -90,16 +120,20 @@ noted p m w e before (Err NoMemory) s is t n = (
     log_faults = tt;
     console = TakesFront-none p.console [];
     console_faults = tt;
-    clock = record { more = clock_value e; gave = t; all = λ same. absurd cc };
+    read = read-lost i.left p.input.left (e ∷ []) h.read;
+    heard = h.lost;
+    input_faults = tt;
+    clock = record { more = clock_value e; gave = h.value; all = λ same. absurd cc };
   },
   tt,
 )
-noted p m w e before (Err ConsoleWrite) s is t n = absurd n
+unnoted p o i before m w e ConsoleRead h s is n = absurd n
+unnoted p o i before m w e ConsoleWrite h s is n = absurd n
 
--- nothing happened, but that the clock may have given a value
-refused : (p : Stand) (e : Event) (before : Option (List ℕ)) → Takes before p.gave (clock_value e)
-    → Goes (before_value p before) p (Err NoMemory)
-refused p e before t = (
+-- nothing happened, but that the input or the clock may have given something
+refused : (p : Stand) (o : Bool) (i : Intake) (before : Option (List ℕ)) (e : Event) → Had p o i before e
+    → Goes o (earlier p i before) p (Err NoMemory)
+refused p o i before e h = (
   record {
     events = [];
     bytes = [];
@@ -111,7 +145,10 @@ refused p e before t = (
     log_faults = tt;
     console = TakesFront-none p.console [];
     console_faults = tt;
-    clock = record { more = clock_value e; gave = t; all = λ same. absurd cc };
+    read = read-lost i.left p.input.left (e ∷ []) h.read;
+    heard = h.lost;
+    input_faults = tt;
+    clock = record { more = clock_value e; gave = h.value; all = λ same. absurd cc };
   },
   tt,
 )
@@ -124,18 +161,34 @@ pub rest-of : (p q : Stand) (bytes : List ℕ) (x : Result (Unit {0}) Break) →
 rest-of p q bytes (Ok done) n = n.1
 rest-of p q bytes (Err LogWrite) n = n.1
 rest-of p q bytes (Err NoMemory) n = n ∙ ap (λ z. record p { log = z.log }) (sym n)
+rest-of p q bytes (Err ConsoleRead) n = absurd n
 rest-of p q bytes (Err ConsoleWrite) n = absurd n
 
-pub entered : (p q : Stand) (e : Event) (before : Option (List ℕ)) (x : Result (Unit {0}) Break)
-    → IsEvent e → Takes before p.gave (clock_value e) → Enters p q e x → Goes (before_value p before) q x
-entered p q e before x is t (inl none) =
-    subst (λ (z : Result (Unit {0}) Break). Goes (before_value p before) q z) (sym none.0)
-    (subst (λ (z : Stand). Goes (before_value p before) z (Err NoMemory)) (sym none.1) (refused p e before t))
-entered p q e before x is t (inr took) =
-    let rest = rest-of (record p { machine = q.machine }) q (text e) x took.1 in
-    subst (λ (z : Stand). Goes (before_value p before) z x) (sym rest)
-    (noted p q.machine q.log e before x took.0 is t
-    (subst (λ (z : Stand). Notes (record p { machine = q.machine }) z (text e) x) rest took.1))
+-- an event that wasn't entered
+pub unentered : (p q : Stand) (o : Bool) (i : Intake) (before : Option (List ℕ)) (e : Event) (b : Break)
+    → IsEvent e → Had p o i before e → Enters p q e (Err b) → Goes o (earlier p i before) q (Err b)
+unentered p q o i before e b is h (inl none) =
+    subst (λ (z : Result (Unit {0}) Break). Goes o (earlier p i before) q z) (sym none.0)
+    (subst (λ (z : Stand). Goes o (earlier p i before) z (Err NoMemory)) (sym none.1) (refused p o i before e h))
+unentered p q o i before e b is h (inr took) =
+    let rest = rest-of (record p { machine = q.machine }) q (text e) (Err b) took.1 in
+    subst (λ (z : Stand). Goes o (earlier p i before) z (Err b)) (sym rest)
+    (unnoted p o i before q.machine q.log e b h took.0 is
+    (subst (λ (z : Stand). Notes (record p { machine = q.machine }) z (text e) (Err b)) rest took.1))
+
+-- an event that was entered, after which nothing is owed
+pub entered : (p q : Stand) (o : Bool) (i : Intake) (before : Option (List ℕ)) (e : Event) (x : Result (Unit {0}) Break)
+    → IsEvent e → Had p o i before e → Heard true o (unread i) (e ∷ []) (unread p.input)
+    → Enters p q e x → Goes o (earlier p i before) q x
+entered p q o i before e x is h heard (inl none) =
+    subst (λ (z : Result (Unit {0}) Break). Goes o (earlier p i before) q z) (sym none.0)
+    (subst (λ (z : Stand). Goes o (earlier p i before) z (Err NoMemory)) (sym none.1) (refused p o i before e h))
+entered p q o i before e (Ok done) is h heard (inr took) =
+    let rest = rest-of (record p { machine = q.machine }) q (text e) (Ok done) took.1 in
+    let n = subst (λ (z : Stand). Notes (record p { machine = q.machine }) z (text e) (Ok done)) rest took.1 in
+    subst (λ (z : Stand). Recorded true o (earlier p i before) z) (sym rest)
+    (noted p o i before q.machine q.log e h took.0 is n heard)
+entered p q o i before e (Err b) is h heard (inr took) = unentered p q o i before e b is h (inr took)
 
 -- the machine was stepped, and then the log got the event
 pub enters-noted : (p q : Stand) (m : State) (e : Event) (x : Result (Unit {0}) Break) → step p.machine e ≡ Some m
@@ -148,8 +201,8 @@ enters-noted p q m e x s n =
     )
 
 -- memory was refused while turns ran
-pub out-of-memory : (p : Stand) (m : State) → Goes p (record p { machine = m }) (Err NoMemory)
-out-of-memory p m = (
+pub out-of-memory : (o : Bool) (p : Stand) (m : State) → Goes o p (record p { machine = m }) (Err NoMemory)
+out-of-memory o p m = (
   record {
     events = [];
     bytes = [];
@@ -161,7 +214,134 @@ out-of-memory p m = (
     log_faults = tt;
     console = TakesFront-none p.console [];
     console_faults = tt;
+    read = read-none false p.input.left;
+    heard = heard-none false o (unread p.input) (λ same. absurd cc);
+    input_faults = tt;
     clock = record { more = []; gave = Takes-refl p.gave; all = λ same. refl };
   },
   tt,
 )
+
+-- ---- what events have of the input
+
+-- an event that leaves the input
+abbrev pub LeavesInput : Event → Type 0
+LeavesInput (event.CharRead bytes) = ⊥
+LeavesInput (event.Block id ok) = ⊥
+LeavesInput (event.Net packet) = ⊥
+LeavesInput other = Unit {0}
+
+leaves-typed : (e : Event) → LeavesInput e → typed (e ∷ []) ≡ []
+leaves-typed (event.CharRead bytes) l = absurd l
+leaves-typed (event.Block id ok) l = refl
+leaves-typed (event.Net packet) l = refl
+leaves-typed (event.Instruction n) l = refl
+leaves-typed event.Interrupt l = refl
+leaves-typed event.Exception l = refl
+leaves-typed (event.Clock value) l = refl
+leaves-typed (event.Checkpoint idle) l = refl
+leaves-typed (event.End reason code) l = refl
+
+-- no window is open
+unowed-part : (e : Event) (left : List ℕ) → LeavesInput e → Hears false false left (e ∷ []) left
+unowed-part (event.CharRead bytes) left l = absurd l
+unowed-part (event.Block id ok) left l = absurd l
+unowed-part (event.Net packet) left l = absurd l
+unowed-part (event.Instruction n) left l = (λ same. absurd cc, (λ whole. absurd cc, refl))
+unowed-part event.Interrupt left l = (λ same. absurd cc, (λ whole. absurd cc, refl))
+unowed-part event.Exception left l = (λ same. absurd cc, (λ whole. absurd cc, refl))
+unowed-part (event.Clock value) left l = (λ same. absurd cc, (λ whole. absurd cc, refl))
+unowed-part (event.Checkpoint idle) left l = (λ same. absurd cc, (λ whole. absurd cc, refl))
+unowed-part (event.End reason code) left l = (λ whole. absurd cc, (λ whole. absurd cc, refl))
+
+heard-part : (e : Event) (a : Option (List ℕ)) → LeavesInput e → Heard false false a (e ∷ []) a
+heard-part e None l = tt
+heard-part e (Some left) l = ([], unowed-part e left l)
+
+pub leaves-read : (w : Bool) (e : Event) (a : Option (List ℕ)) → LeavesInput e → Read w a a (e ∷ [])
+leaves-read w e a l = record {
+  more = [];
+  gave = subst (Consumes a a) (sym (append-nil (typed (e ∷ [])) ∙ leaves-typed e l)) (Consumes-nil a);
+  all = λ whole. refl;
+}
+
+-- such an event, where the clock gave its value
+pub had : (p : Stand) (before : Option (List ℕ)) (e : Event) → LeavesInput e → Takes before p.gave (clock_value e)
+    → Had p false p.input before e
+had p before e l t = record {
+  value = t;
+  read = leaves-read true e p.input.left l;
+  faults = refl;
+  part = heard-part e (unread p.input) l;
+  lost = heard-none false false (unread p.input) (λ same. absurd cc);
+}
+
+-- an event that opens no window
+abbrev pub IsPlain : Event → Type 0
+IsPlain (event.Checkpoint idle) = ⊥
+IsPlain e = LeavesInput e
+
+pub plain-leaves : (e : Event) → IsPlain e → LeavesInput e
+plain-leaves (event.CharRead bytes) l = l
+plain-leaves (event.Block id ok) l = l
+plain-leaves (event.Net packet) l = l
+plain-leaves (event.Instruction n) l = tt
+plain-leaves event.Interrupt l = tt
+plain-leaves event.Exception l = tt
+plain-leaves (event.Clock value) l = tt
+plain-leaves (event.Checkpoint idle) l = tt
+plain-leaves (event.End reason code) l = tt
+
+plain-told : (e : Event) (left : List ℕ) → IsPlain e → Hears true false left (e ∷ []) left
+plain-told (event.CharRead bytes) left l = absurd l
+plain-told (event.Block id ok) left l = absurd l
+plain-told (event.Net packet) left l = absurd l
+plain-told (event.Checkpoint idle) left l = absurd l
+plain-told (event.Instruction n) left l = (λ same. absurd cc, (λ whole same. absurd cc, refl))
+plain-told event.Interrupt left l = (λ same. absurd cc, (λ whole same. absurd cc, refl))
+plain-told event.Exception left l = (λ same. absurd cc, (λ whole same. absurd cc, refl))
+plain-told (event.Clock value) left l = (λ same. absurd cc, (λ whole same. absurd cc, refl))
+plain-told (event.End reason code) left l = (λ whole same. absurd cc, (λ whole same. absurd cc, refl))
+
+pub plain-heard : (e : Event) (a : Option (List ℕ)) → IsPlain e → Heard true false a (e ∷ []) a
+plain-heard e None l = tt
+plain-heard e (Some left) l = plain-told e left l
+
+-- a piece of the input
+pub had-piece : (p : Stand) (i : Intake) (piece : List ℕ) → Gives i p.input piece → Had p true i p.gave (event.CharRead piece)
+had-piece p i piece g = record {
+  value = Takes-refl p.gave;
+  read = gives-read i p.input piece g;
+  faults = g.faults;
+  part = heard-weak true (unread i) (unread p.input) (event.CharRead piece ∷ []) (gives-heard i p.input piece g);
+  lost = heard-lost true (unread i) (unread p.input) (event.CharRead piece ∷ []) (gives-heard i p.input piece g);
+}
+
+-- a checkpoint opens a window, in which a piece of the input is owed
+pub opened : (p q : Stand) (idle : Bool) → Enters p q (event.Checkpoint idle) (Ok tt)
+    → Begun false true p q
+opened p q idle (inl none) = absurd cc
+opened p q idle (inr took) =
+    let e : Event = event.Checkpoint idle in
+    let rest = rest-of (record p { machine = q.machine }) q (text e) (Ok tt) took.1 in
+    subst (λ (z : Stand). Begun false true p z) (sym rest)
+    (opened-to p idle q.machine q.log took.0
+    (subst (λ (z : Stand). Notes (record p { machine = q.machine }) z (text e) (Ok tt)) rest took.1))
+  where
+    opened-to : (p : Stand) (idle : Bool) (m : State) (w : Writer) → step p.machine (event.Checkpoint idle) ≡ Some m
+        → Notes (record p { machine = m }) (record p { machine = m; log = w }) (text (event.Checkpoint idle)) (Ok tt)
+        → Begun false true p (record p { machine = m; log = w })
+    opened-to p idle m w s n = record {
+      events = event.Checkpoint idle ∷ [];
+      bytes = [];
+      are = (tt, tt);
+      runs = run-one p.machine m (event.Checkpoint idle) s;
+      log = subst (Appended p.log w) (sym (one-text (event.Checkpoint idle))) n.0;
+      log_faults = n.2;
+      console = Takes-refl p.console;
+      console_faults = refl;
+      read = leaves-read true (event.Checkpoint idle) p.input.left tt;
+      heard = λ w es c h. heard-opened w idle (unread p.input) c es h;
+      input_faults = refl;
+      clock = gave-one true p.gave p.gave (event.Checkpoint idle) (Takes-refl p.gave);
+    }

@@ -14,9 +14,11 @@ use Rattle.board.specs.Runs.{step, then_run, run}
 use Rattle.board.specs.Taken.{with_out, map_out}
 use Rattle.board.proofs.TakenLaws.{run-with}
 use Rattle.rr_engine.specs.declared.parts.Break.{Break}
-use Rattle.rr_engine.specs.declared.parts.Break.TheVariants.{ConsoleWrite, LogWrite, NoMemory}
+use Rattle.rr_engine.specs.declared.parts.Break.TheVariants.{ConsoleRead, ConsoleWrite, LogWrite, NoMemory}
 use Rattle.rr_engine.specs.Stand.{Stand}
+use Rattle.rr_engine.specs.Input.{unread, Heard, Read}
 use Rattle.rr_engine.specs.Recording.{clock_value, clock_values, Took, Appended, Logged, Gave, Counted, Recorded, IsLogged, Broke, Goes}
+use Rattle.rr_engine.proofs.Hearing.{heard-then, heard-none, read-then, read-none}
 
 -- ---- runs
 
@@ -118,7 +120,7 @@ appended-none w works = record { written = []; taken = Takes-refl w.taken; whole
 pub gave-none : (w : Bool) (a : Option (List ℕ)) → Gave w a a []
 gave-none w a = record { more = []; gave = Takes-refl a; all = λ e. refl }
 
-pub recorded-none : (p : Stand) → p.log.unsent.failed ≡ false → Recorded true p p
+pub recorded-none : (p : Stand) → p.log.unsent.failed ≡ false → Recorded true false p p
 recorded-none p works = record {
   events = [];
   bytes = [];
@@ -130,67 +132,114 @@ recorded-none p works = record {
   log_faults = refl;
   console = Takes-refl p.console;
   console_faults = refl;
+  read = read-none true p.input.left;
+  heard = heard-none true false (unread p.input) (λ whole. refl);
+  input_faults = refl;
   clock = gave-none true p.gave;
 }
 
-pub recorded-then : (w : Bool) (p q r : Stand) → Recorded true p q → Recorded w q r → Recorded w p r
-recorded-then w p q r a b =
-    let first : run p.machine a.events ≡ Some (with_out a.bytes q.machine) =
-    a.runs ∙ ap (λ z. some_state (with_out a.bytes z)) (a.stands refl) in
-    record {
-      events = a.events ++ b.events;
-      bytes = a.bytes ++ b.bytes;
-      last = b.last;
-      are = all-append a.events b.events a.are b.are;
-      runs = run-append a.events b.events p.machine (with_out a.bytes q.machine) (Some (with_out (a.bytes ++ b.bytes) b.last)) first
-          (run-behind a.bytes b.bytes b.events q.machine b.last b.runs);
-      stands = b.stands;
-      log = subst (Logged w p.log r.log) (sym (texts-append a.events b.events))
-          (logged-then w p.log q.log r.log (texts a.events) (texts b.events) a.log b.log);
-      log_faults = counted-then w p.log.faults q.log.faults r.log.faults a.log_faults b.log_faults;
-      console = took-then w p.console q.console r.console a.bytes b.bytes a.console b.console;
-      console_faults = counted-then w p.console_faults q.console_faults r.console_faults a.console_faults b.console_faults;
-      clock = subst (Gave w p.gave r.gave) (sym (values-append a.events b.events))
-          (gave-then w p.gave q.gave r.gave (clock_values a.events) (clock_values b.events) a.clock b.clock);
-    }
+-- a part of a recording after which another may come; a window may owe its piece before and after
+pub record Begun (owed owed' : Bool) (p q : Stand) : Type 0 where
+  pub events : List Event
+  pub bytes : List ℕ
+  pub are : AllByRecursion IsEvent events
+  pub runs : run p.machine events ≡ Some (with_out bytes q.machine)
+  pub log : Appended p.log q.log (texts events)
+  pub log_faults : q.log.faults ≡ p.log.faults
+  pub console : Takes p.console q.console bytes
+  pub console_faults : q.console_faults ≡ p.console_faults
+  pub read : Read true p.input.left q.input.left events
+  pub heard : (w : Bool) (es : List Event) (c : Option (List ℕ)) → Heard w owed' (unread q.input) es c
+      → Heard w owed (unread p.input) (events ++ es) c
+  pub input_faults : q.input.faults ≡ p.input.faults
+  pub clock : Gave true p.gave q.gave (clock_values events)
+
+-- a whole recording is one
+pub begun : (o : Bool) (p q : Stand) → Recorded true o p q → Begun o false p q
+begun o p q a = record {
+  events = a.events;
+  bytes = a.bytes;
+  are = a.are;
+  runs = a.runs ∙ ap (λ z. some_state (with_out a.bytes z)) (a.stands refl);
+  log = a.log;
+  log_faults = a.log_faults;
+  console = a.console;
+  console_faults = a.console_faults;
+  read = a.read;
+  heard = λ w es c h. heard-then w o (unread p.input) (unread q.input) c a.events es a.heard h;
+  input_faults = a.input_faults;
+  clock = a.clock;
+}
+
+pub begun-then : (w o o' : Bool) (p q r : Stand) → Begun o o' p q → Recorded w o' q r → Recorded w o p r
+begun-then w o o' p q r a b = record {
+  events = a.events ++ b.events;
+  bytes = a.bytes ++ b.bytes;
+  last = b.last;
+  are = all-append a.events b.events a.are b.are;
+  runs = run-append a.events b.events p.machine (with_out a.bytes q.machine) (Some (with_out (a.bytes ++ b.bytes) b.last)) a.runs
+      (run-behind a.bytes b.bytes b.events q.machine b.last b.runs);
+  stands = b.stands;
+  log = subst (Logged w p.log r.log) (sym (texts-append a.events b.events))
+      (logged-then w p.log q.log r.log (texts a.events) (texts b.events) a.log b.log);
+  log_faults = counted-then w p.log.faults q.log.faults r.log.faults a.log_faults b.log_faults;
+  console = took-then w p.console q.console r.console a.bytes b.bytes a.console b.console;
+  console_faults = counted-then w p.console_faults q.console_faults r.console_faults a.console_faults b.console_faults;
+  read = read-then w p.input.left q.input.left r.input.left a.events b.events a.read b.read;
+  heard = a.heard w b.events (unread r.input) b.heard;
+  input_faults = counted-then w p.input.faults q.input.faults r.input.faults a.input_faults b.input_faults;
+  clock = subst (Gave w p.gave r.gave) (sym (values-append a.events b.events))
+      (gave-then w p.gave q.gave r.gave (clock_values a.events) (clock_values b.events) a.clock b.clock);
+}
+
+pub recorded-then : (w o : Bool) (p q r : Stand) → Recorded true o p q → Recorded w false q r → Recorded w o p r
+recorded-then w o p q r a b = begun-then w o false p q r (begun o p q a) b
 
 -- what was recorded, and then all of the rest
-pub logged-after : (p q r : Stand) → Recorded true p q → IsLogged q r → IsLogged p r
-logged-after p q r a b =
-    let first : run p.machine a.events ≡ Some (with_out a.bytes q.machine) =
-    a.runs ∙ ap (λ z. some_state (with_out a.bytes z)) (a.stands refl) in
-    record {
-      events = a.events ++ b.events;
-      bytes = a.bytes ++ b.bytes;
-      last = b.last;
-      are = all-append a.events b.events a.are b.are;
-      runs = run-append a.events b.events p.machine (with_out a.bytes q.machine) (Some (with_out (a.bytes ++ b.bytes) b.last)) first
-          (run-behind a.bytes b.bytes b.events q.machine b.last b.runs);
-      stopped = b.stopped;
-      log = subst (λ (z : List ℕ). Takes p.log.taken r.log.taken (p.log.unsent.held ++ z))
-          (sym (texts-append a.events b.events))
-          (subst (Takes p.log.taken r.log.taken)
-          (regroup a.log.written q.log.unsent.held p.log.unsent.held (texts a.events)
-          (texts b.events) a.log.whole)
-          (Takes-trans p.log.taken q.log.taken r.log.taken a.log.written
-          (q.log.unsent.held ++ texts b.events) a.log.taken b.log));
-      console = TakesFront-after p.console q.console r.console a.bytes b.bytes a.console b.console;
-      clock = subst (Gave false p.gave r.gave) (sym (values-append a.events b.events))
-          (gave-then false p.gave q.gave r.gave (clock_values a.events) (clock_values b.events)
-          a.clock b.clock);
-    }
+logged-after : (shown o o' : Bool) (p q r : Stand) → Begun o o' p q → IsLogged shown o' q r → IsLogged shown o p r
+logged-after shown o o' p q r a b = record {
+  events = a.events ++ b.events;
+  bytes = a.bytes ++ b.bytes;
+  last = b.last;
+  are = all-append a.events b.events a.are b.are;
+  runs = run-append a.events b.events p.machine (with_out a.bytes q.machine) (Some (with_out (a.bytes ++ b.bytes) b.last)) a.runs
+      (run-behind a.bytes b.bytes b.events q.machine b.last b.runs);
+  stopped = b.stopped;
+  log = subst (λ (z : List ℕ). Takes p.log.taken r.log.taken (p.log.unsent.held ++ z))
+      (sym (texts-append a.events b.events))
+      (subst (Takes p.log.taken r.log.taken)
+      (regroup a.log.written q.log.unsent.held p.log.unsent.held (texts a.events)
+      (texts b.events) a.log.whole)
+      (Takes-trans p.log.taken q.log.taken r.log.taken a.log.written
+      (q.log.unsent.held ++ texts b.events) a.log.taken b.log));
+  console = took-then shown p.console q.console r.console a.bytes b.bytes a.console b.console;
+  all = b.all;
+  read = read-then false p.input.left q.input.left r.input.left a.events b.events a.read b.read;
+  heard = a.heard false b.events (unread r.input) b.heard;
+  clock = subst (Gave false p.gave r.gave) (sym (values-append a.events b.events))
+      (gave-then false p.gave q.gave r.gave (clock_values a.events) (clock_values b.events)
+      a.clock b.clock);
+}
 
-pub broke-then : (p q r : Stand) (b : Break) → Recorded true p q → Broke q r b → Broke p r b
-broke-then p q r ConsoleWrite a h =
+broke-then : (o o' : Bool) (p q r : Stand) (b : Break) → Begun o o' p q → Broke o' q r b → Broke o p r b
+broke-then o o' p q r ConsoleRead a h =
+    let P : ℕ → Type 0 = λ n. Rose n r.input.faults in
+    let Q : ℕ → Type 0 = λ n. Stood n r.log.faults in (
+      subst P a.input_faults h.0,
+      λ stood. logged-after true o o' p q r a (h.1 (subst Q (sym a.log_faults) stood)),
+    )
+broke-then o o' p q r ConsoleWrite a h =
     let P : ℕ → Type 0 = λ n. Rose n r.console_faults in
     let Q : ℕ → Type 0 = λ n. Stood n r.log.faults in (
       subst P a.console_faults h.0,
-      λ stood. logged-after p q r a
-          (h.1 (subst Q (sym a.log_faults) stood)),
+      λ stood. logged-after false o o' p q r a (h.1 (subst Q (sym a.log_faults) stood)),
     )
-broke-then p q r LogWrite a h = let P : ℕ → Type 0 = λ n. Rose n r.log.faults in subst P a.log_faults h
-broke-then p q r NoMemory a h = tt
+broke-then o o' p q r LogWrite a h = let P : ℕ → Type 0 = λ n. Rose n r.log.faults in subst P a.log_faults h
+broke-then o o' p q r NoMemory a h = tt
 
-pub goes-then : (p q r : Stand) (x : Result (Unit {0}) Break) → Recorded true p q → Goes q r x → Goes p r x
-goes-then p q r (Ok done) a h = recorded-then true p q r a h
-goes-then p q r (Err b) a h = (recorded-then false p q r a h.0, broke-then p q r b a h.1)
+pub begun-goes : (o o' : Bool) (p q r : Stand) (x : Result (Unit {0}) Break) → Begun o o' p q → Goes o' q r x → Goes o p r x
+begun-goes o o' p q r (Ok done) a h = begun-then true o o' p q r a h
+begun-goes o o' p q r (Err b) a h = (begun-then false o o' p q r a h.0, broke-then o o' p q r b a h.1)
+
+pub goes-then : (o : Bool) (p q r : Stand) (x : Result (Unit {0}) Break) → Recorded true o p q → Goes false q r x → Goes o p r x
+goes-then o p q r x a h = begun-goes o false p q r x (begun o p q a) h

@@ -1,10 +1,12 @@
 pub mod Noting
+pub mod Hearing
 pub mod Joining
 pub mod Entering
 pub mod Stopping
 pub mod Owing
 pub mod Falling
 pub mod Running
+pub mod Idling
 pub mod Endings
 pub mod Rounding
 pub mod Wholes

@@ -1,5 +1,5 @@
 -- What is due is accepted.
-use Rattle.std.proofs.Common.{◌≡◌, ℕ, ◌<◌, ◌^◌, Bool, true, false, refl, ap, ◌∙◌, arith, subst}
+use Rattle.std.proofs.Common.{◌≡◌, ℕ, ◌<◌, ◌^◌, Bool, true, false, List, refl, ap, ◌∙◌, arith, subst}
 use Rattle.std.specs.Prelude.{Some, None, ◌==◌, is_some, if◌then◌else◌}
 use Rattle.std.specs.declared.option.Option.{Option}
 use Rattle.std.proofs.lemmas.Bool.{eq-eqb, ne_eqb}
@@ -9,13 +9,16 @@ use Rattle.board.specs.declared.control.Control.{Control}
 use Rattle.board.specs.declared.due.Due.{Due}
 use Rattle.board.specs.declared.due.Due.TheVariants as due_is
 use Rattle.board.specs.State.{State}
+use Rattle.uart16550.specs.Line.{Line}
+use Rattle.board.specs.Lines.{levels}
 use Rattle.board.specs.Close.{close}
 use Rattle.board.specs.Due.{due, due_by, due_closed, has_in_flight, interrupt_of, needs_clock}
-use Rattle.board.specs.Accept.{accept, taken, takes, takes_interrupt, takes_input, ended, with_levels}
+use Rattle.board.specs.Accept.{accept, taken, takes, takes_interrupt, takes_input, received, with_used_window, ended, with_levels}
 use Rattle.board.specs.Runs.{step}
 use Rattle.board.specs.Answers.{IsDue}
 use Rattle.board.proofs.Counting.{close-keeps}
 use Rattle.rr_engine.specs.Recording.{IsOwed}
+use Rattle.event_log.specs.Spelling.{IsEvent}
 use Rattle.rr_engine.proofs.Joining.{some_state, some_is}
 
 -- an event that was taken is accepted
@@ -94,7 +97,7 @@ window-opens due_is.Idle true g h going e = subst (λ (z : State). takes_input z
 window-opens due_is.Slice false g h going e = subst (λ (z : State). takes_input z.control ≡ true) (some_is _ h e) (rw going refl)
 window-opens d idle g h going e = absurd cc
 
-level-keeps : (P : Control → Type 0) (o : Option State) (h : State) → with_levels o ≡ Some h
+pub level-keeps : (P : Control → Type 0) (o : Option State) (h : State) → with_levels o ≡ Some h
     → ((k : State) → o ≡ Some k → P k.control) → P h.control
 level-keeps P None h e all = absurd cc
 level-keeps P (Some k) h e all = subst (λ (z : State). P z.control) (some_is _ h e) (all k refl)
@@ -105,12 +108,39 @@ checkpoint-opens g h idle going s =
     level-keeps (λ c. takes_input c ≡ true) (takes (due g) (event.Checkpoint idle) (close g)) h s
     (λ k e. window-opens (due g) idle (close g) k ((close-keeps g).ended ∙ going) e)
 
+-- a piece of the input in an open window
+pub owes_piece : (g : State) (bytes : List ℕ) → takes_input g.control ≡ true → IsEvent (event.CharRead bytes)
+    → IsOwed g (event.CharRead bytes)
+unfolding step taken
+owes_piece g bytes window is =
+    let a = owes g (with_used_window (received g bytes)) (event.CharRead bytes) (rw window refl) refl in
+    record { spelled = is; after = a.0; steps = a.1 }
+
 window-ends : (g k : State) (b : Bool) → (if b then some_state (ended g 3 0) else None) ≡ Some k
     → k.control.ended ≡ Some (record { reason = 3; code = 0 })
 window-ends g k true e =
     subst (λ (z : State). z.control.ended ≡ Some (record { reason = 3; code = 0 }))
     (some_is (ended g 3 0) k e) refl
 window-ends g k false e = absurd cc
+
+window-silent : (g k : State) (b : Bool) → (if b then some_state (ended g 3 0) else None) ≡ Some k
+    → k.devices.uart ≡ g.devices.uart
+window-silent g k true e = subst (λ (z : State). z.devices.uart ≡ g.devices.uart) (some_is (ended g 3 0) k e) refl
+window-silent g k false e = absurd cc
+
+levels-silent : (P : Line → Type 0) (o : Option State) (h : State) → with_levels o ≡ Some h
+    → ((k : State) → o ≡ Some k → P k.devices.uart) → P h.devices.uart
+unfolding levels
+levels-silent P None h e all = absurd cc
+levels-silent P (Some k) h e all =
+    subst (λ (z : State). P z.devices.uart) (some_is (record k { devices = levels k.devices }) h e) (all k refl)
+
+-- END 3 gives no console bytes
+pub stop-silent : (g h : State) → step g (event.End 3 0) ≡ Some h → h.devices.uart ≡ g.devices.uart
+unfolding step accept taken
+stop-silent g h s =
+    levels-silent (λ u. u ≡ g.devices.uart) (taken g (event.End 3 0)) h s
+    (λ k e. window-silent g k (takes_input g.control) e)
 
 -- END 3 ends the run
 pub stop-ends : (g h : State) → step g (event.End 3 0) ≡ Some h

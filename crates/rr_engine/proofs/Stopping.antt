@@ -1,11 +1,13 @@
 -- A recording that is stopped.
-use Rattle.std.proofs.Common.{◌≡◌, ℕ, true, false, arith, List, [], ◌∷◌, ◌++◌, refl, sym, ap, ◌∙◌, subst, append-nil, inl, inr}
+use Rattle.std.proofs.Common.{◌≡◌, ℕ, Bool, true, false, arith, List, [], ◌∷◌, ◌++◌, refl, sym, ap, ◌∙◌, subst, append-nil, inl, inr}
 use Rattle.std.specs.Prelude.{Some, None, Result, Ok, Err}
 use Rattle.std.specs.declared.option.Option.{Option}
+use Rattle.std.specs.Io.KnownBytes.{Keeps}
 use Rattle.outside.specs.Causes.{Rose, Stood}
 use Rattle.outside.specs.Told.{Takes, TakesFront}
 use Rattle.outside.proofs.ToldLemmas.{Takes-refl, Takes-trans, TakesFront-none, TakesFront-all, TakesFront-after, TakesFront-longer}
 use Rattle.event_log.specs.declared.event.Event.{Event}
+use Rattle.event_log.specs.declared.event.Event.TheVariants as event
 use Rattle.event_log.specs.Spelling.{text, IsEvent}
 use Rattle.board.specs.State.{State}
 use Rattle.board.specs.Runs.{step, run}
@@ -14,11 +16,14 @@ use Rattle.board.specs.declared.due.Due.TheVariants as due_is
 use Rattle.board.proofs.TakenLaws.{due-with}
 use Rattle.board.specs.Taken.{with_out, without_out}
 use Rattle.rr_engine.specs.declared.parts.Break.{Break}
-use Rattle.rr_engine.specs.declared.parts.Break.TheVariants.{ConsoleWrite, LogWrite, NoMemory}
+use Rattle.rr_engine.specs.declared.parts.Break.TheVariants.{ConsoleRead, ConsoleWrite, LogWrite, NoMemory}
+use Rattle.io_workers.specs.Intake.{Intake, Progress, Fails}
 use Rattle.rr_engine.specs.Stand.{Stand}
+use Rattle.rr_engine.specs.Input.{unread, Heard, Read}
 use Rattle.rr_engine.specs.Recording.{clock_value, clock_values, Gave, Recorded, Goes, Notes, Shows, Flushed, Stopped, IsStopped, IsLogged, Stops, Enters, Sent, or_memory}
-use Rattle.rr_engine.proofs.Joining.{some_state, run-none, run-one, run-behind, appended-none, gave-none}
-use Rattle.rr_engine.proofs.Entering.{rest-of}
+use Rattle.rr_engine.proofs.Hearing.{heard-none, read-none, kept-read, kept-heard, kept-unread}
+use Rattle.rr_engine.proofs.Joining.{some_state, run-none, run-one, run-behind, appended-none, gave-none, Begun}
+use Rattle.rr_engine.proofs.Entering.{rest-of, LeavesInput, leaves-read}
 
 -- console bytes that were taken stand before
 pub with-taken : (g : State) → with_out g.devices.uart.out (without_out g) ≡ g
@@ -26,29 +31,30 @@ with-taken g =
     ap (λ z. record g { devices = record g.devices { uart = record g.devices.uart { out = z } } }) (append-nil g.devices.uart.out)
 
 -- the console got its bytes
-shown-to : (p : Stand) (console : Option (List ℕ)) → p.log.unsent.failed ≡ false
+shown-to : (o : Bool) (p : Stand) (console : Option (List ℕ)) → p.log.unsent.failed ≡ false
     → Takes p.console console p.machine.devices.uart.out
-    → Recorded true p (record p { machine = without_out p.machine; console = console })
-shown-to p console works t = record {
+    → Begun o o p (record p { machine = without_out p.machine; console = console })
+shown-to o p console works t = record {
   events = [];
   bytes = p.machine.devices.uart.out;
-  last = without_out p.machine;
   are = tt;
   runs = run-none p.machine ∙ ap (λ z. some_state z) (sym (with-taken p.machine));
-  stands = λ same. refl;
   log = appended-none p.log works;
   log_faults = refl;
   console = t;
   console_faults = refl;
+  read = read-none true p.input.left;
+  heard = λ w es c h. h;
+  input_faults = refl;
   clock = gave-none true p.gave;
 }
 
-pub shown : (p q : Stand) → p.log.unsent.failed ≡ false → Shows p q (Ok tt) → Recorded true p q
-shown p q works s = subst (Recorded true p) (sym s.1) (shown-to p q.console works s.0)
+pub shown : (o : Bool) (p q : Stand) → p.log.unsent.failed ≡ false → Shows p q (Ok tt) → Begun o o p q
+shown o p q works s = subst (Begun o o p) (sym s.1) (shown-to o p q.console works s.0)
 
 -- what was held of the log was written, and nothing else came
-pub flushed-stopped : (p q : Stand) → Flushed p q → Stopped p q
-flushed-stopped p q f = record {
+pub flushed-stopped : (o : Bool) (p q : Stand) → Flushed p q → Stopped o p q
+flushed-stopped o p q f = record {
   recorded = record {
     events = [];
     bytes = [];
@@ -60,19 +66,24 @@ flushed-stopped p q f = record {
     log_faults = tt;
     console = subst (λ (z : Stand). TakesFront p.console z.console []) (sym f.rest) (TakesFront-none p.console []);
     console_faults = tt;
+    read = subst (λ (z : Stand). Read false p.input.left z.input.left []) (sym f.rest) (read-none false p.input.left);
+    heard = subst (λ (z : Stand). Heard false o (unread p.input) [] (unread z.input)) (sym f.rest)
+        (heard-none false o (unread p.input) (λ same. absurd cc));
+    input_faults = tt;
     clock = subst (λ (z : Stand). Gave false p.gave z.gave []) (sym f.rest) (gave-none false p.gave);
   };
   silent = refl;
   console = ap (λ z. z.console) f.rest;
   console_faults = ap (λ z. z.console_faults) f.rest;
+  input = ap (λ z. z.input) f.rest;
 }
 
 -- the console's sink failed, and the recording was stopped
-spill-to : (p r : Stand) (console : Option (List ℕ)) (faults : ℕ)
+spill-to : (o : Bool) (p r : Stand) (console : Option (List ℕ)) (faults : ℕ)
     → TakesFront p.console console p.machine.devices.uart.out
-    → Stopped (record p { machine = without_out p.machine; console = console; console_faults = faults }) r
-    → Recorded false p r
-spill-to p r console faults t s = record {
+    → Stopped o (record p { machine = without_out p.machine; console = console; console_faults = faults }) r
+    → Recorded false o p r
+spill-to o p r console faults t s = record {
   events = s.recorded.events;
   bytes = p.machine.devices.uart.out ++ s.recorded.bytes;
   last = s.recorded.last;
@@ -87,16 +98,19 @@ spill-to p r console faults t s = record {
   console = subst (λ (z : Option (List ℕ)). TakesFront p.console z (p.machine.devices.uart.out ++ s.recorded.bytes)) (sym s.console)
       (TakesFront-longer p.console console p.machine.devices.uart.out s.recorded.bytes t);
   console_faults = tt;
+  read = s.recorded.read;
+  heard = s.recorded.heard;
+  input_faults = tt;
   clock = s.recorded.clock;
 }
 
-spilled : (p q r : Stand) → Shows p q (Err ConsoleWrite) → Stopped q r → Recorded false p r
-spilled p q r s stopped = spill-to p r q.console q.console_faults s.0
-    (subst (λ (z : Stand). Stopped z r) s.1 stopped)
+spilled : (o : Bool) (p q r : Stand) → Shows p q (Err ConsoleWrite) → Stopped o q r → Recorded false o p r
+spilled o p q r s stopped = spill-to o p r q.console q.console_faults s.0
+    (subst (λ (z : Stand). Stopped o z r) s.1 stopped)
 
-spill-rose : (p q r : Stand) → Shows p q (Err ConsoleWrite) → Stopped q r
+spill-rose : (o : Bool) (p q r : Stand) → Shows p q (Err ConsoleWrite) → Stopped o q r
     → Rose p.console_faults r.console_faults
-spill-rose p q r s stopped =
+spill-rose o p q r s stopped =
     subst (λ (z : ℕ). Rose p.console_faults z) (sym stopped.console_faults) s.2
 
 -- a count that rose didn't stand
@@ -111,6 +125,7 @@ sent-flushed p q (Err NoMemory) s = record {
   front = subst (λ (z : Stand). TakesFront p.log.taken z.log.taken p.log.unsent.held) (sym s) (TakesFront-none p.log.taken p.log.unsent.held);
   rest = s ∙ ap (λ (z : Stand). record p { log = z.log }) (sym s);
 }
+sent-flushed p q (Err ConsoleRead) s = absurd s
 sent-flushed p q (Err ConsoleWrite) s = absurd s
 
 -- the clock gave no value for an event without one
@@ -125,11 +140,49 @@ no-value p r e none gave = record {
   all = λ same. refl;
 }
 
+-- an event of a stop: no input comes with it
+abbrev pub EndsInput : Event → Type 0
+EndsInput (event.End reason code) = Unit {0}
+EndsInput other = ⊥
+
+end-part : (o : Bool) (a : Option (List ℕ)) (e : Event) → EndsInput e → Heard false o a (e ∷ []) a
+end-part o None e ends = tt
+end-part o (Some left) (event.End reason code) ends = ([], (λ whole. absurd cc, (λ whole. absurd cc, refl)))
+end-part o (Some left) (event.Instruction n) ends = absurd ends
+end-part o (Some left) event.Interrupt ends = absurd ends
+end-part o (Some left) event.Exception ends = absurd ends
+end-part o (Some left) (event.CharRead bytes) ends = absurd ends
+end-part o (Some left) (event.Block id ok) ends = absurd ends
+end-part o (Some left) (event.Net bytes) ends = absurd ends
+end-part o (Some left) (event.Clock value) ends = absurd ends
+end-part o (Some left) (event.Checkpoint idle) ends = absurd ends
+
+end-leaves : (e : Event) → EndsInput e → LeavesInput e
+end-leaves (event.End reason code) ends = tt
+end-leaves (event.Instruction n) ends = absurd ends
+end-leaves event.Interrupt ends = absurd ends
+end-leaves event.Exception ends = absurd ends
+end-leaves (event.CharRead bytes) ends = absurd ends
+end-leaves (event.Block id ok) ends = absurd ends
+end-leaves (event.Net bytes) ends = absurd ends
+end-leaves (event.Clock value) ends = absurd ends
+end-leaves (event.Checkpoint idle) ends = absurd ends
+
+no-read : (p r : Stand) (e : Event) → EndsInput e → r.input ≡ p.input → Read false p.input.left r.input.left (e ∷ [])
+no-read p r e ends same =
+    subst (λ (z : Intake). Read false p.input.left z.left (e ∷ [])) (sym same) (leaves-read false e p.input.left (end-leaves e ends))
+
+no-part : (o : Bool) (p r : Stand) (e : Event) → EndsInput e → r.input ≡ p.input
+    → Heard false o (unread p.input) (e ∷ []) (unread r.input)
+no-part o p r e ends same =
+    subst (λ (z : Intake). Heard false o (unread p.input) (e ∷ []) (unread z)) (sym same)
+    (end-part o (unread p.input) e ends)
+
 -- an event was entered, and the log ended after it
-noted-stopped : (p : Stand) (m : State) (e : Event) (r : Stand) (after : Option (List ℕ)) → step p.machine e ≡ Some m → IsEvent e
-    → clock_value e ≡ [] → TakesFront p.log.taken r.log.taken (p.log.unsent.held ++ text e)
-    → r.console ≡ p.console → r.console_faults ≡ p.console_faults → r.gave ≡ p.gave → Stopped p r
-noted-stopped p m e r after s is none front console faults gave = record {
+noted-stopped : (o : Bool) (p : Stand) (m : State) (e : Event) (r : Stand) (after : Option (List ℕ)) → step p.machine e ≡ Some m → IsEvent e
+    → EndsInput e → clock_value e ≡ [] → TakesFront p.log.taken r.log.taken (p.log.unsent.held ++ text e)
+    → r.console ≡ p.console → r.console_faults ≡ p.console_faults → r.input ≡ p.input → r.gave ≡ p.gave → Stopped o p r
+noted-stopped o p m e r after s is ends none front console faults input gave = record {
   recorded = record {
     events = e ∷ [];
     bytes = [];
@@ -141,20 +194,24 @@ noted-stopped p m e r after s is none front console faults gave = record {
     log_faults = tt;
     console = subst (λ (z : Option (List ℕ)). TakesFront p.console z []) (sym console) (TakesFront-none p.console []);
     console_faults = tt;
+    read = no-read p r e ends input;
+    heard = no-part o p r e ends input;
+    input_faults = tt;
     clock = no-value p r e none gave;
   };
   silent = refl;
   console = console;
   console_faults = faults;
+  input = input;
 }
 
-unmoved : (p : Stand) → Stopped p p
-unmoved p = flushed-stopped p p (record { front = TakesFront-none p.log.taken p.log.unsent.held; rest = refl })
+unmoved : (o : Bool) (p : Stand) → Stopped o p p
+unmoved o p = flushed-stopped o p p (record { front = TakesFront-none p.log.taken p.log.unsent.held; rest = refl })
 
 -- memory was refused after the machine had taken an event
-moved : (p : Stand) (m : State) → Stopped p (record p { machine = m })
-moved p m =
-    let s = unmoved p in
+moved : (o : Bool) (p : Stand) (m : State) → Stopped o p (record p { machine = m })
+moved o p m =
+    let s = unmoved o p in
     record {
       recorded = record {
         events = s.recorded.events;
@@ -167,48 +224,61 @@ moved p m =
         log_faults = tt;
         console = s.recorded.console;
         console_faults = tt;
+        read = s.recorded.read;
+        heard = s.recorded.heard;
+        input_faults = tt;
         clock = s.recorded.clock;
       };
       silent = s.silent;
       console = refl;
       console_faults = refl;
+      input = refl;
     }
 
 -- the log got the event, and all that it held was written
-entered-flushed : (p q r : Stand) (e : Event) → IsEvent e → clock_value e ≡ [] → Enters p q e (Ok tt) → Flushed q r → Stopped p r
-entered-flushed p q r e is none (inl refused) f = absurd cc
-entered-flushed p q r e is none (inr took) f =
+entered-flushed : (o : Bool) (p q r : Stand) (e : Event) → IsEvent e → EndsInput e → clock_value e ≡ [] → Enters p q e (Ok tt) → Flushed q r → Stopped o p r
+entered-flushed o p q r e is ends none (inl refused) f = absurd cc
+entered-flushed o p q r e is ends none (inr took) f =
     let rest = rest-of (record p { machine = q.machine }) q (text e) (Ok tt) took.1 in
     let a = took.1.0 in
     let front : TakesFront p.log.taken r.log.taken (a.written ++ q.log.unsent.held) =
     TakesFront-after p.log.taken q.log.taken r.log.taken a.written q.log.unsent.held a.taken f.front in
-    noted-stopped p q.machine e r r.console took.0 is none
+    noted-stopped o p q.machine e r r.console took.0 is ends none
     (subst (TakesFront p.log.taken r.log.taken) a.whole front)
     (ap (λ (z : Stand). z.console) f.rest ∙ ap (λ (z : Stand). z.console) rest)
     (ap (λ (z : Stand). z.console_faults) f.rest ∙ ap (λ (z : Stand). z.console_faults) rest)
+    (ap (λ (z : Stand). z.input) f.rest ∙ ap (λ (z : Stand). z.input) rest)
     (ap (λ (z : Stand). z.gave) f.rest ∙ ap (λ (z : Stand). z.gave) rest)
 
-pub entered-stopped : (p q r : Stand) (e : Event) (x : Result (Unit {0}) Break) → IsEvent e → clock_value e ≡ []
-    → Enters p q e (Ok tt) → Sent q r q.log.unsent.held x → Stopped p r
-entered-stopped p q r e x is none en s = entered-flushed p q r e is none en (sent-flushed q r x s)
+entered-stopped : (o : Bool) (p q r : Stand) (e : Event) (x : Result (Unit {0}) Break) → IsEvent e → EndsInput e → clock_value e ≡ []
+    → Enters p q e (Ok tt) → Sent q r q.log.unsent.held x → Stopped o p r
+entered-stopped o p q r e x is ends none en s = entered-flushed o p q r e is ends none en (sent-flushed q r x s)
 
 -- the event wasn't entered
-pub failed-stopped : (p q : Stand) (e : Event) (b : Break) → IsEvent e → clock_value e ≡ [] → Enters p q e (Err b) → Stopped p q
-failed-stopped p q e b is none (inl refused) = subst (Stopped p) (sym refused.1) (unmoved p)
-failed-stopped p q e ConsoleWrite is none (inr took) = absurd took.1
-failed-stopped p q e NoMemory is none (inr took) = subst (Stopped p) (sym took.1) (moved p q.machine)
-failed-stopped p q e LogWrite is none (inr took) =
+failed-stopped : (o : Bool) (p q : Stand) (e : Event) (b : Break) → IsEvent e → EndsInput e → clock_value e ≡ []
+    → Enters p q e (Err b) → Stopped o p q
+failed-stopped o p q e b is ends none (inl refused) = subst (Stopped o p) (sym refused.1) (unmoved o p)
+failed-stopped o p q e ConsoleRead is ends none (inr took) = absurd took.1
+failed-stopped o p q e ConsoleWrite is ends none (inr took) = absurd took.1
+failed-stopped o p q e NoMemory is ends none (inr took) = subst (Stopped o p) (sym took.1) (moved o p q.machine)
+failed-stopped o p q e LogWrite is ends none (inr took) =
     let rest = took.1.1 in
-    noted-stopped p q.machine e q q.console took.0 is none took.1.0
-    (ap (λ (z : Stand). z.console) rest) (ap (λ (z : Stand). z.console_faults) rest) (ap (λ (z : Stand). z.gave) rest)
+    noted-stopped o p q.machine e q q.console took.0 is ends none took.1.0
+    (ap (λ (z : Stand). z.console) rest) (ap (λ (z : Stand). z.console_faults) rest)
+    (ap (λ (z : Stand). z.input) rest) (ap (λ (z : Stand). z.gave) rest)
+
+-- where the console wasn't shown all, less is known of the stop
+less-stopped : (shown : Bool) (g : State) → IsStopped shown g → IsStopped false g
+less-stopped shown g (inl ended) = inl ended
+less-stopped shown g (inr owed) = inr (refl, owed.1, owed.2, owed.3, owed.4)
 
 -- the log has all, and the console has a front of the bytes from before
-logged-to : (p r : Stand) (console : Option (List ℕ)) (faults : ℕ)
+logged-to : (o : Bool) (shown : Bool) (p r : Stand) (console : Option (List ℕ)) (faults : ℕ)
     → TakesFront p.console console p.machine.devices.uart.out
-    → IsLogged
+    → IsLogged shown o
     (record p { machine = without_out p.machine; console = console; console_faults = faults }) r
-    → r.console ≡ console → IsLogged p r
-logged-to p r console faults t s same = record {
+    → r.console ≡ console → IsLogged false o p r
+logged-to o shown p r console faults t s same = record {
   events = s.events;
   bytes = p.machine.devices.uart.out ++ s.bytes;
   last = s.last;
@@ -217,55 +287,66 @@ logged-to p r console faults t s same = record {
       ap (λ z. run z s.events) (sym (with-taken p.machine))
       ∙ run-behind p.machine.devices.uart.out s.bytes s.events (without_out p.machine) s.last
       s.runs;
-  stopped = s.stopped;
+  stopped = less-stopped shown s.last s.stopped;
   log = s.log;
   console = subst (λ (z : Option (List ℕ)). TakesFront p.console z
       (p.machine.devices.uart.out ++ s.bytes)) (sym same)
       (TakesFront-longer p.console console p.machine.devices.uart.out s.bytes t);
+  all = λ same. absurd cc;
+  read = s.read;
+  heard = s.heard;
   clock = s.clock;
 }
 
 -- ---- what became of the log
 
 -- all that was held was written, where an END of the machine's own was due
-flushed-logged : (p q : Stand) (reason code : ℕ) → p.machine.control.ended ≡ None
+flushed-logged : (o : Bool) (p q : Stand) (reason code : ℕ) → p.machine.control.ended ≡ None
     → due p.machine ≡ due_is.End reason code
-    → Sent p q p.log.unsent.held (Ok tt) → IsLogged p q
-flushed-logged p q reason code going owed s = record {
+    → Sent p q p.log.unsent.held (Ok tt) → IsLogged false o p q
+flushed-logged o p q reason code going owed s = record {
   events = [];
   bytes = [];
   last = p.machine;
   are = tt;
   runs = run-none p.machine;
-  stopped = inr (going, reason, code, owed);
+  stopped = inr (refl, going, reason, code, owed);
   log = subst (Takes p.log.taken q.log.taken) (sym (append-nil p.log.unsent.held)) s.0;
   console = subst (λ (z : Stand). TakesFront p.console z.console []) (sym s.1)
       (TakesFront-none p.console []);
+  all = λ same. absurd cc;
+  read = subst (λ (z : Stand). Read false p.input.left z.input.left []) (sym s.1) (read-none false p.input.left);
+  heard = subst (λ (z : Stand). Heard false o (unread p.input) [] (unread z.input)) (sym s.1)
+      (heard-none false o (unread p.input) (λ same. absurd cc));
   clock = subst (λ (z : Stand). Gave false p.gave z.gave []) (sym s.1) (gave-none false p.gave);
 }
 
-flushed-stops : (p q : Stand) (reason code : ℕ) (x : Result (Unit {0}) Break)
+flushed-stops : (o : Bool) (p q : Stand) (reason code : ℕ) (x : Result (Unit {0}) Break)
     → p.machine.control.ended ≡ None
-    → due p.machine ≡ due_is.End reason code → Sent p q p.log.unsent.held x → Stops p q x
-flushed-stops p q reason code (Ok done) going owed s =
-    (flushed-stopped p q (sent-flushed p q (Ok done) s), flushed-logged p q reason code going owed s)
-flushed-stops p q reason code (Err LogWrite) going owed s =
-    (flushed-stopped p q (sent-flushed p q (Err LogWrite) s), s.2)
-flushed-stops p q reason code (Err NoMemory) going owed s = flushed-stopped p q
+    → due p.machine ≡ due_is.End reason code → Sent p q p.log.unsent.held x → Stops false o p q x
+flushed-stops o p q reason code (Ok done) going owed s =
+    (flushed-stopped o p q (sent-flushed p q (Ok done) s), flushed-logged o p q reason code going owed s)
+flushed-stops o p q reason code (Err LogWrite) going owed s =
+    (flushed-stopped o p q (sent-flushed p q (Err LogWrite) s), s.2)
+flushed-stops o p q reason code (Err NoMemory) going owed s = flushed-stopped o p q
     (sent-flushed p q (Err NoMemory) s)
-flushed-stops p q reason code (Err ConsoleWrite) going owed s = absurd s
+flushed-stops o p q reason code (Err ConsoleRead) going owed s = absurd s
+flushed-stops o p q reason code (Err ConsoleWrite) going owed s = absurd s
 
 -- END 3 was entered, and all that was held was written
-entered-logged : (p q r : Stand) (e : Event) → IsEvent e → clock_value e ≡ [] → IsStopped q.machine
+entered-logged : (o : Bool) (p q r : Stand) (e : Event) → IsEvent e → EndsInput e → clock_value e ≡ [] → IsStopped true q.machine
+    → q.machine.devices.uart.out ≡ []
     → step p.machine e ≡ Some q.machine
     → Notes (record p { machine = q.machine }) q (text e) (Ok tt)
-    → Sent q r q.log.unsent.held (Ok tt) → IsLogged p r
-entered-logged p q r e is none stopped s n sent =
+    → Sent q r q.log.unsent.held (Ok tt) → IsLogged true o p r
+entered-logged o p q r e is ends none stopped silent s n sent =
     let rest = rest-of (record p { machine = q.machine }) q (text e) (Ok tt) n in
     let console : r.console ≡ p.console = ap (λ (z : Stand). z.console) sent.1
     ∙ ap (λ (z : Stand). z.console) rest in
     let gave : r.gave ≡ p.gave = ap (λ (z : Stand). z.gave) sent.1
     ∙ ap (λ (z : Stand). z.gave) rest in
+    let input : r.input ≡ p.input = ap (λ (z : Stand). z.input) sent.1
+    ∙ ap (λ (z : Stand). z.input) rest in
     record {
       events = e ∷ [];
       bytes = [];
@@ -278,78 +359,158 @@ entered-logged p q r e is none stopped s n sent =
           (subst (Takes p.log.taken r.log.taken) n.0.whole
           (Takes-trans p.log.taken q.log.taken r.log.taken n.0.written q.log.unsent.held n.0.taken
           sent.0));
-      console = subst (λ (z : Option (List ℕ)). TakesFront p.console z []) (sym console)
-          (TakesFront-none p.console []);
+      console = subst (λ (z : Option (List ℕ)). Takes p.console z []) (sym console)
+          (Takes-refl p.console);
+      all = λ same. silent;
+      read = no-read p r e ends input;
+      heard = no-part o p r e ends input;
       clock = no-value p r e none gave;
     }
 
-pub entered-stops : (p q r : Stand) (e : Event) (x : Result (Unit {0}) Break) → IsEvent e
+pub entered-stops : (o : Bool) (p q r : Stand) (e : Event) (x : Result (Unit {0}) Break) → IsEvent e → EndsInput e
     → clock_value e ≡ []
-    → (step p.machine e ≡ Some q.machine → IsStopped q.machine) → Enters p q e (Ok tt)
-    → Sent q r q.log.unsent.held x → Stops p r x
-entered-stops p q r e x is none stopped (inl refused) s = absurd cc
-entered-stops p q r e (Ok done) is none stopped (inr took) s = (
-  entered-stopped p q r e (Ok done) is none (inr took) s,
-  entered-logged p q r e is none (stopped took.0) took.0 took.1 s,
+    → (step p.machine e ≡ Some q.machine → IsStopped true q.machine × (q.machine.devices.uart.out ≡ []))
+    → Enters p q e (Ok tt) → Sent q r q.log.unsent.held x → Stops true o p r x
+entered-stops o p q r e x is ends none stopped (inl refused) s = absurd cc
+entered-stops o p q r e (Ok done) is ends none stopped (inr took) s = (
+  entered-stopped o p q r e (Ok done) is ends none (inr took) s,
+  entered-logged o p q r e is ends none (stopped took.0).0 (stopped took.0).1 took.0 took.1 s,
 )
-entered-stops p q r e (Err LogWrite) is none stopped (inr took) s = (
-  entered-stopped p q r e (Err LogWrite) is none (inr took) s,
+entered-stops o p q r e (Err LogWrite) is ends none stopped (inr took) s = (
+  entered-stopped o p q r e (Err LogWrite) is ends none (inr took) s,
   subst (λ (z : ℕ). Rose z r.log.faults) took.1.2 s.2,
 )
-entered-stops p q r e (Err NoMemory) is none stopped (inr took) s = entered-stopped p q r e
-    (Err NoMemory) is none (inr took) s
-entered-stops p q r e (Err ConsoleWrite) is none stopped (inr took) s = absurd s
+entered-stops o p q r e (Err NoMemory) is ends none stopped (inr took) s = entered-stopped o p q r e
+    (Err NoMemory) is ends none (inr took) s
+entered-stops o p q r e (Err ConsoleRead) is ends none stopped (inr took) s = absurd s
+entered-stops o p q r e (Err ConsoleWrite) is ends none stopped (inr took) s = absurd s
 
-pub failed-stops : (p q : Stand) (e : Event) (b : Break) → IsEvent e → clock_value e ≡ []
-    → Enters p q e (Err b) → Stops p q (Err b)
-failed-stops p q e NoMemory is none en = failed-stopped p q e NoMemory is none en
-failed-stops p q e LogWrite is none (inl refused) = absurd cc
-failed-stops p q e LogWrite is none (inr took) =
-    (failed-stopped p q e LogWrite is none (inr took), took.1.2)
-failed-stops p q e ConsoleWrite is none (inl refused) = absurd cc
-failed-stops p q e ConsoleWrite is none (inr took) = absurd took.1
+pub failed-stops : (o : Bool) (p q : Stand) (e : Event) (b : Break) → IsEvent e → EndsInput e → clock_value e ≡ []
+    → Enters p q e (Err b) → Stops true o p q (Err b)
+failed-stops o p q e NoMemory is ends none en = failed-stopped o p q e NoMemory is ends none en
+failed-stops o p q e LogWrite is ends none (inl refused) = absurd cc
+failed-stops o p q e LogWrite is ends none (inr took) =
+    (failed-stopped o p q e LogWrite is ends none (inr took), took.1.2)
+failed-stops o p q e ConsoleRead is ends none (inl refused) = absurd cc
+failed-stops o p q e ConsoleRead is ends none (inr took) = absurd took.1
+failed-stops o p q e ConsoleWrite is ends none (inl refused) = absurd cc
+failed-stops o p q e ConsoleWrite is ends none (inr took) = absurd took.1
 
 -- the console's sink failed, and the recording was stopped, whatever broke it off
-spill-goes : (p q r : Stand) (x : Result (Unit {0}) Break) → Shows p q (Err ConsoleWrite)
-    → Stops q r x → Goes p r (Err (or_memory ConsoleWrite x))
-spill-goes p q r (Ok done) s stops = (
-  spilled p q r s stops.0,
+spill-goes : (o : Bool) (shown : Bool) (p q r : Stand) (x : Result (Unit {0}) Break) → Shows p q (Err ConsoleWrite)
+    → Stops shown o q r x → Goes o p r (Err (or_memory ConsoleWrite x))
+spill-goes o shown p q r (Ok done) s stops = (
+  spilled o p q r s stops.0,
   (
-    spill-rose p q r s stops.0,
-    λ stood. logged-to p r q.console q.console_faults s.0
-        (subst (λ (z : Stand). IsLogged z r) s.1 stops.1) stops.0.console,
+    spill-rose o p q r s stops.0,
+    λ stood. logged-to o shown p r q.console q.console_faults s.0
+        (subst (λ (z : Stand). IsLogged shown o z r) s.1 stops.1) stops.0.console,
   ),
 )
-spill-goes p q r (Err LogWrite) s stops = (
-  spilled p q r s stops.0,
+spill-goes o shown p q r (Err LogWrite) s stops = (
+  spilled o p q r s stops.0,
   (
-    spill-rose p q r s stops.0,
+    spill-rose o p q r s stops.0,
     λ stood. absurd (not-both p.log.faults r.log.faults
         (subst (λ (z : ℕ). Rose z r.log.faults) (ap (λ (z : Stand). z.log.faults) s.1) stops.1)
         stood),
   ),
 )
-spill-goes p q r (Err NoMemory) s stops = (spilled p q r s stops, tt)
-spill-goes p q r (Err ConsoleWrite) s stops = absurd stops
+spill-goes o shown p q r (Err NoMemory) s stops = (spilled o p q r s stops, tt)
+spill-goes o shown p q r (Err ConsoleRead) s stops = absurd stops
+spill-goes o shown p q r (Err ConsoleWrite) s stops = absurd stops
 
-pub spills : (p q r : Stand) (b c : Break) (x : Result (Unit {0}) Break) → c ≡ or_memory b x
-    → Shows p q (Err b) → Stops q r x → Goes p r (Err c)
-spills p q r ConsoleWrite c x is s stops = subst (λ (z : Break). Goes p r (Err z)) (sym is)
-    (spill-goes p q r x s stops)
-spills p q r LogWrite c x is s stops = absurd s
-spills p q r NoMemory c x is s stops = absurd s
+pub spills : (o : Bool) (shown : Bool) (p q r : Stand) (b c : Break) (x : Result (Unit {0}) Break) → c ≡ or_memory b x
+    → Shows p q (Err b) → Stops shown o q r x → Goes o p r (Err c)
+spills o shown p q r ConsoleWrite c x is s stops = subst (λ (z : Break). Goes o p r (Err z)) (sym is)
+    (spill-goes o shown p q r x s stops)
+spills o shown p q r ConsoleRead c x is s stops = absurd s
+spills o shown p q r LogWrite c x is s stops = absurd s
+spills o shown p q r NoMemory c x is s stops = absurd s
+
+-- ---- the console's source failed
+
+-- a source that failed gave nothing
+abbrev pub Deaf : Stand → Stand → Type 0
+Deaf p q = Fails p.input q.input × (q ≡ record p { input = q.input })
+
+fails-unread : (old new : Intake) → Fails old new → Keeps (unread old) (unread new)
+fails-unread old new f = kept-unread old new (ap (λ (z : Progress). z.count) f.progress) f.bytes
+
+deaf-to : (o : Bool) (p r : Stand) (i : Intake) → Fails p.input i → Stopped o (record p { input = i }) r → Recorded false o p r
+deaf-to o p r i f s = record {
+  events = s.recorded.events;
+  bytes = s.recorded.bytes;
+  last = s.recorded.last;
+  are = s.recorded.are;
+  runs = s.recorded.runs;
+  stands = λ same. absurd cc;
+  log = s.recorded.log;
+  log_faults = tt;
+  console = s.recorded.console;
+  console_faults = tt;
+  read = kept-read false p.input.left i.left r.input.left s.recorded.events f.bytes s.recorded.read;
+  heard = kept-heard false o (unread p.input) (unread i) (unread r.input) s.recorded.events
+      (fails-unread p.input i f) s.recorded.heard;
+  input_faults = tt;
+  clock = s.recorded.clock;
+}
+
+deaf-logged : (o : Bool) (shown : Bool) (p r : Stand) (i : Intake) → Fails p.input i → IsLogged shown o (record p { input = i }) r
+    → IsLogged shown o p r
+deaf-logged o shown p r i f s = record {
+  events = s.events;
+  bytes = s.bytes;
+  last = s.last;
+  are = s.are;
+  runs = s.runs;
+  stopped = s.stopped;
+  log = s.log;
+  console = s.console;
+  all = s.all;
+  read = kept-read false p.input.left i.left r.input.left s.events f.bytes s.read;
+  heard = kept-heard false o (unread p.input) (unread i) (unread r.input) s.events
+      (fails-unread p.input i f) s.heard;
+  clock = s.clock;
+}
+
+deaf-rose : (o : Bool) (p r : Stand) (i : Intake) → Fails p.input i → Stopped o (record p { input = i }) r
+    → Rose p.input.faults r.input.faults
+deaf-rose o p r i f s = subst (λ (z : Intake). Rose p.input.faults z.faults) (sym s.input) f.faults
+
+deaf-goes : (o : Bool) (p r : Stand) (i : Intake) (x : Result (Unit {0}) Break) → Fails p.input i
+    → Stops true o (record p { input = i }) r x → Goes o p r (Err (or_memory ConsoleRead x))
+deaf-goes o p r i (Ok done) f stops = (
+  deaf-to o p r i f stops.0,
+  (deaf-rose o p r i f stops.0, λ stood. deaf-logged o true p r i f stops.1),
+)
+deaf-goes o p r i (Err LogWrite) f stops = (
+  deaf-to o p r i f stops.0,
+  (deaf-rose o p r i f stops.0, λ stood. absurd (not-both p.log.faults r.log.faults stops.1 stood)),
+)
+deaf-goes o p r i (Err NoMemory) f stops = (deaf-to o p r i f stops, tt)
+deaf-goes o p r i (Err ConsoleRead) f stops = absurd stops
+deaf-goes o p r i (Err ConsoleWrite) f stops = absurd stops
+
+pub deafens : (o : Bool) (p q r : Stand) (c : Break) (x : Result (Unit {0}) Break) → c ≡ or_memory ConsoleRead x
+    → Deaf p q → Stops true o q r x → Goes o p r (Err c)
+deafens o p q r c x is d stops =
+    subst (λ (z : Break). Goes o p r (Err z)) (sym is)
+    (deaf-goes o p r q.input x d.0 (subst (λ (z : Stand). Stops true o z r x) d.1 stops))
 
 -- ---- what the console's bytes leave
 
 pub shown-machine : (p q : Stand) (x : Result (Unit {0}) Break) → Shows p q x → q.machine ≡ without_out p.machine
 shown-machine p q (Ok done) s = ap (λ (z : Stand). z.machine) s.1
 shown-machine p q (Err ConsoleWrite) s = ap (λ (z : Stand). z.machine) s.1
+shown-machine p q (Err ConsoleRead) s = absurd s
 shown-machine p q (Err LogWrite) s = absurd s
 shown-machine p q (Err NoMemory) s = absurd s
 
 pub shown-log : (p q : Stand) (x : Result (Unit {0}) Break) → Shows p q x → q.log ≡ p.log
 shown-log p q (Ok done) s = ap (λ (z : Stand). z.log) s.1
 shown-log p q (Err ConsoleWrite) s = ap (λ (z : Stand). z.log) s.1
+shown-log p q (Err ConsoleRead) s = absurd s
 shown-log p q (Err LogWrite) s = absurd s
 shown-log p q (Err NoMemory) s = absurd s
 
@@ -358,12 +519,12 @@ pub due-without : (g : State) → due (without_out g) ≡ due g
 due-without g = sym (due-with g.devices.uart.out (without_out g)) ∙ ap due (with-taken g)
 
 -- the console's sink failed before an END of the machine's own
-pub conclusion-spills : (p q r : Stand) (b c : Break) (x : Result (Unit {0}) Break)
+pub conclusion-spills : (o : Bool) (p q r : Stand) (b c : Break) (x : Result (Unit {0}) Break)
     (reason code : ℕ) → c ≡ or_memory b x → Shows p q (Err b)
     → p.machine.control.ended ≡ None → due p.machine ≡ due_is.End reason code
-    → Sent q r q.log.unsent.held x → Goes p r (Err c)
-conclusion-spills p q r b c x reason code is s going owed sent =
+    → Sent q r q.log.unsent.held x → Goes o p r (Err c)
+conclusion-spills o p q r b c x reason code is s going owed sent =
     let machine : q.machine ≡ without_out p.machine = shown-machine p q (Err b) s in
-    spills p q r b c x is s
-    (flushed-stops q r reason code x (ap (λ (z : State). z.control.ended) machine ∙ going)
+    spills o false p q r b c x is s
+    (flushed-stops o q r reason code x (ap (λ (z : State). z.control.ended) machine ∙ going)
     (ap due machine ∙ due-without p.machine ∙ owed) sent)

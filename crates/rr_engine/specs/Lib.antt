@@ -1,3 +1,4 @@
+pub mod Input
 pub mod Stand
 pub mod Recording
 pub mod Work

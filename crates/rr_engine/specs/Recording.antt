@@ -2,6 +2,7 @@
 use Rattle.std.specs.Prelude.{◌≡◌, ℕ, Bool, true, false, List, [], ◌∷◌, ◌++◌, ◌⊎◌, ◌≤◌, Some, None, Result, Ok, Err}
 use Rattle.std.specs.declared.option.Option.{Option}
 use Rattle.std.specs.List.{AllByRecursion}
+use Rattle.std.specs.Io.KnownBytes.{IsAtEnd}
 use Rattle.outside.specs.Causes.{Rose, Stood}
 use Rattle.outside.specs.Told.{Takes, TakesFront}
 use Rattle.event_log.specs.declared.event.Event.{Event}
@@ -14,13 +15,15 @@ use Rattle.board.specs.Taken.{with_out, without_out}
 use Rattle.board.specs.Due.{due}
 use Rattle.board.specs.declared.due.Due.TheVariants as due_is
 use Rattle.board.specs.declared.control.Ending.{Ending}
+use Rattle.board.specs.declared.control.Window.TheVariants as window
 use Rattle.event_log.specs.declared.stream_error.StreamError.{StreamError}
 use Rattle.event_log.specs.declared.stream_error.StreamError.TheVariants as stream
 use Rattle.rr_engine.specs.declared.parts.RunEnd.{RunEnd}
 use Rattle.rr_engine.specs.declared.parts.RunEnd.TheVariants as ends
 use Rattle.rr_engine.specs.declared.parts.Break.{Break}
-use Rattle.rr_engine.specs.declared.parts.Break.TheVariants.{ConsoleWrite, LogWrite, NoMemory}
+use Rattle.rr_engine.specs.declared.parts.Break.TheVariants.{ConsoleRead, ConsoleWrite, LogWrite, NoMemory}
 use Rattle.rr_engine.specs.Stand.{Stand}
+use Rattle.rr_engine.specs.Input.{unread, Heard, Read}
 
 -- the value of a CLOCK event
 abbrev pub clock_value : Event → List ℕ
@@ -61,9 +64,8 @@ Counted true old new = new ≡ old
 Counted false old new = Unit {0}
 
 -- The machine took these events, and gave these console bytes away; the log has the events, the
--- console the bytes, and the clock gave the values. Where it broke off, the log has a front of
--- that, and the console too.
-pub record Recorded (whole : Bool) (p q : Stand) : Type 0 where
+-- console the bytes, and its input and the clock gave what the events have. Where it broke off, the log has a front of that, and the console too.
+pub record Recorded (whole owed : Bool) (p q : Stand) : Type 0 where
   pub events : List Event
   pub bytes : List ℕ
   pub last : State
@@ -74,38 +76,49 @@ pub record Recorded (whole : Bool) (p q : Stand) : Type 0 where
   pub log_faults : Counted whole p.log.faults q.log.faults
   pub console : Took whole p.console q.console bytes
   pub console_faults : Counted whole p.console_faults q.console_faults
+  pub read : Read whole p.input.left q.input.left events
+  pub heard : Heard whole owed (unread p.input) events (unread q.input)
+  pub input_faults : Counted whole p.input.faults q.input.faults
   pub clock : Gave whole p.gave q.gave (clock_values events)
 
--- END 3 ended the run, or an END of the machine's own was due
-abbrev pub IsStopped : State → Type 0
-IsStopped g =
+-- END 3 ended the run; or, where the console couldn't be shown all, an END of the machine's own was
+-- due
+abbrev pub IsStopped : Bool → State → Type 0
+IsStopped shown g =
     (g.control.ended ≡ Some (record { reason = 3; code = 0 }))
-    ⊎ ((g.control.ended ≡ None) × (reason : ℕ) × (code : ℕ) × (due g ≡ due_is.End reason code))
+    ⊎ ((shown ≡ false) × (g.control.ended ≡ None)
+    × (reason : ℕ) × (code : ℕ) × (due g ≡ due_is.End reason code))
 
--- The recording was stopped after these events, and the log has them all. The console has a front
--- of the bytes.
-pub record IsLogged (p q : Stand) : Type 0 where
+-- The recording was stopped after these events, and the log has them all. The console was shown all
+-- of the bytes, or a front.
+pub record IsLogged (shown owed : Bool) (p q : Stand) : Type 0 where
   pub events : List Event
   pub bytes : List ℕ
   pub last : State
   pub are : AllByRecursion IsEvent events
   pub runs : run p.machine events ≡ Some (with_out bytes last)
-  pub stopped : IsStopped last
+  pub stopped : IsStopped shown last
   pub log : Takes p.log.taken q.log.taken (p.log.unsent.held ++ texts events)
-  pub console : TakesFront p.console q.console bytes
+  pub console : Took shown p.console q.console bytes
+  pub all : shown ≡ true → last.devices.uart.out ≡ []
+  pub read : Read false p.input.left q.input.left events
+  pub heard : Heard false owed (unread p.input) events (unread q.input)
   pub clock : Gave false p.gave q.gave (clock_values events)
 
 -- why it broke off
-abbrev pub Broke : Stand → Stand → Break → Type 0
-Broke p q ConsoleWrite =
-    Rose p.console_faults q.console_faults × (Stood p.log.faults q.log.faults → IsLogged p q)
-Broke p q LogWrite = Rose p.log.faults q.log.faults
-Broke p q NoMemory = Unit {0}
+abbrev pub Broke : Bool → Stand → Stand → Break → Type 0
+Broke owed p q ConsoleRead =
+    Rose p.input.faults q.input.faults × (Stood p.log.faults q.log.faults → IsLogged true owed p q)
+Broke owed p q ConsoleWrite =
+    Rose p.console_faults q.console_faults
+    × (Stood p.log.faults q.log.faults → IsLogged false owed p q)
+Broke owed p q LogWrite = Rose p.log.faults q.log.faults
+Broke owed p q NoMemory = Unit {0}
 
--- the recording went on, or broke off
-abbrev pub Goes : Stand → Stand → Result (Unit {0}) Break → Type 0
-Goes p q (Ok done) = Recorded true p q
-Goes p q (Err broke) = Recorded false p q × Broke p q broke
+-- the recording went on, or broke off; at first a window may owe its piece of the input
+abbrev pub Goes : Bool → Stand → Stand → Result (Unit {0}) Break → Type 0
+Goes owed p q (Ok done) = Recorded true owed p q
+Goes owed p q (Err broke) = Recorded false owed p q × Broke owed p q broke
 
 -- an event that the machine accepts now
 pub record IsOwed (g : State) (e : Event) : Type 0 where
@@ -122,6 +135,7 @@ Notes p q bytes (Err LogWrite) =
     TakesFront p.log.taken q.log.taken (p.log.unsent.held ++ bytes)
     × (q ≡ record p { log = q.log }) × Rose p.log.faults q.log.faults
 Notes p q bytes (Err NoMemory) = q ≡ p
+Notes p q bytes (Err ConsoleRead) = ⊥
 Notes p q bytes (Err ConsoleWrite) = ⊥
 
 -- the console took the bytes that weren't taken yet, or its sink failed; nothing else changed
@@ -146,26 +160,29 @@ pub record Flushed (p q : Stand) : Type 0 where
 
 -- the recording was stopped: no more console bytes came, and the log has a front of what was
 -- recorded
-pub record Stopped (p q : Stand) : Type 0 where
-  pub recorded : Recorded false p q
+pub record Stopped (owed : Bool) (p q : Stand) : Type 0 where
+  pub recorded : Recorded false owed p q
   pub silent : recorded.bytes ≡ []
   pub console : q.console ≡ p.console
   pub console_faults : q.console_faults ≡ p.console_faults
+  pub input : q.input ≡ p.input
 
 -- a break, or want of memory, where that kept the rest of the log from its sink
 abbrev pub or_memory : Break → Result (Unit {0}) Break → Break
 or_memory broke (Err NoMemory) = NoMemory
+or_memory broke (Err ConsoleRead) = broke
 or_memory broke (Err ConsoleWrite) = broke
 or_memory broke (Err LogWrite) = broke
 or_memory broke (Ok done) = broke
 
 -- The recording was stopped. What was recorded is in the log, or its sink failed, or memory was
 -- refused.
-abbrev pub Stops : Stand → Stand → Result (Unit {0}) Break → Type 0
-Stops p q (Ok done) = Stopped p q × IsLogged p q
-Stops p q (Err LogWrite) = Stopped p q × Rose p.log.faults q.log.faults
-Stops p q (Err NoMemory) = Stopped p q
-Stops p q (Err ConsoleWrite) = ⊥
+abbrev pub Stops : Bool → Bool → Stand → Stand → Result (Unit {0}) Break → Type 0
+Stops shown owed p q (Ok done) = Stopped owed p q × IsLogged shown owed p q
+Stops shown owed p q (Err LogWrite) = Stopped owed p q × Rose p.log.faults q.log.faults
+Stops shown owed p q (Err NoMemory) = Stopped owed p q
+Stops shown owed p q (Err ConsoleRead) = ⊥
+Stops shown owed p q (Err ConsoleWrite) = ⊥
 
 -- an event that is accepted without a turn
 abbrev pub IsNoTurn : Event → Type 0
@@ -190,6 +207,16 @@ HasOwnEnding (Some ending) out =
 abbrev pub EndsByItself : State → Type 0
 EndsByItself g = HasOwnEnding g.control.ended g.devices.uart.out
 
+-- A recording that may go on, or ended by itself. An idle window that had no event stands only
+-- where the input's end was answered, and so does an end for want of a wake.
+pub record Rests (p : Stand) : Type 0 where
+  pub own : EndsByItself p.machine
+  pub idle : p.machine.control.window ≡ window.Idle false → p.input.progress.ended ≡ true
+  pub wakeless : (code : ℕ)
+      → p.machine.control.ended ≡ Some (record { reason = 1; code = code })
+      → p.input.progress.ended ≡ true
+  pub over : p.input.progress.ended ≡ true → IsAtEnd (unread p.input)
+
 -- an event of the machine's own, without input and without a turn
 abbrev pub IsOwn : Event → Type 0
 IsOwn (event.Instruction count) = ⊥
@@ -213,6 +240,7 @@ Sent p q bytes (Err LogWrite) =
     TakesFront p.log.taken q.log.taken bytes × (q ≡ record p { log = q.log })
     × Rose p.log.faults q.log.faults
 Sent p q bytes (Err NoMemory) = q ≡ p
+Sent p q bytes (Err ConsoleRead) = ⊥
 Sent p q bytes (Err ConsoleWrite) = ⊥
 
 -- what a write to the log came to
@@ -223,6 +251,7 @@ sent_of (Err other) = Err LogWrite
 
 -- how a recording that broke off ended
 abbrev pub end_of : Break → RunEnd
+end_of ConsoleRead = ends.ConsoleRead
 end_of ConsoleWrite = ends.ConsoleWrite
 end_of LogWrite = ends.LogWrite
 end_of NoMemory = ends.NoMemory

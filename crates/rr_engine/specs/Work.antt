@@ -1,9 +1,10 @@
--- How much a recording without input has left: it falls with each event.
-use Rattle.std.specs.Prelude.{ℕ, ◌+◌, ◌-◌, ◌*◌, Bool, true, false, ◌&&◌, ◌==◌, is_none, if◌then◌else◌}
+-- How much a recording has left: it falls with each round.
+use Rattle.std.specs.Prelude.{ℕ, ◌+◌, ◌-◌, ◌*◌, ◌^◌, Bool, true, false, ◌&&◌, ◌==◌, is_none, if◌then◌else◌}
 use Rattle.rv_csr.specs.Traps.{takes_interrupts}
 use Rattle.board.specs.declared.control.Window.{Window}
 use Rattle.board.specs.declared.control.Window.TheVariants.{Idle}
 use Rattle.board.specs.State.{State}
+use Rattle.io_workers.specs.Intake.{Progress}
 
 abbrev pub bit : Bool → ℕ
 bit b = if b then 1 else 0
@@ -25,3 +26,7 @@ work g =
     + bit (g.control.since == g.control.slice)
     + bit (is_none g.devices.rtc.in_hand)
     + bit (is_none g.control.ended)
+
+-- the same with the input that may still come: a byte weighs more than the marks that it sets
+unfoldable pub work_left : State → Progress → ℕ
+work_left g read = work g + 4 * (2 ^ 40 - read.count)

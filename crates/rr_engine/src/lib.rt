@@ -8,6 +8,8 @@ mod recording;
 mod replayer;
 mod replaying;
 mod rounds;
+#[cfg(test)]
+mod tests;
 
 pub use parts::{RecordParts, RunEnd};
 pub use recording::record_one;

@@ -2,12 +2,16 @@
 
 ghost use Rattle.std.specs.Prelude.{◌≡◌};
 
-use outside::{Careful, HostClock, Sink};
+use io_workers::{Pieces, ReadError};
+use outside::{Bytes, Careful, HostClock, Sink, Source};
+use std::alloc::Global;
 use std::marker::Model;
 
 /// The devices that a recording uses.
 #[derive(Drop)]
-pub struct RecordParts<K: Sink, C: HostClock> {
+pub struct RecordParts<S: Source, K: Sink, C: HostClock> {
+    /// Gives the console's input.
+    pub console: S,
     /// Takes the console's bytes.
     pub out: Careful<K>,
     /// Takes the log.
@@ -16,24 +20,28 @@ pub struct RecordParts<K: Sink, C: HostClock> {
     pub clock: C,
 }
 
-// Clauses see what the sinks have taken, how often they failed, and the values that the clock gave.
-impl<K: Sink, C: HostClock> Model for RecordParts<K, C> {
-    ghost use Rattle.rr_engine.specs.Stand.{Outputs};
+// Clauses see what the sinks have taken and the source has left, how often these failed, and the
+// values that the clock gave.
+impl<S: Source, K: Sink, C: HostClock> Model for RecordParts<S, K, C> {
+    ghost use Rattle.rr_engine.specs.Stand.{Devices};
 
-    ghost Value = { Outputs };
+    ghost Value = { Devices };
 
     ghost view = { λ p. record {
       log = K.taken p.log;
       log_faults = K.faults p.log;
       console = K.taken p.out;
       console_faults = K.faults p.out;
+      input = S.left p.console;
+      input_faults = S.faults p.console;
       gave = C.gave p.clock;
     } };
 }
 
-impl<K: Sink, C: HostClock> RecordParts<K, C> {
+impl<S: Source, K: Sink, C: HostClock> RecordParts<S, K, C> {
     ghost use Rattle.std.specs.Prelude.{◌≡◌, ◌∷◌, []};
     ghost use Rattle.outside.specs.Told.{Takes};
+    ghost use Rattle.io_workers.specs.Intake.{intake, Nexts};
 
     /// The next value of the clock.
     pub(crate) fn now(&mut self) -> u64
@@ -42,6 +50,20 @@ impl<K: Sink, C: HostClock> RecordParts<K, C> {
     {
         self.clock.now()
     }
+
+    /// The next piece of the console's input, of which so much was read.
+    pub(crate) fn next_piece(
+        &mut self,
+        alloc: Global,
+        pieces: &mut Pieces,
+    ) -> Result<Option<Bytes>, ReadError>
+        ensures next { Nexts (intake self.old.input self.old.input_faults pieces.old)
+            (intake self.new.input self.new.input_faults pieces.new) result }
+        ensures rest { self.new
+            ≡ record self.old { input = self.new.input; input_faults = self.new.input_faults } }
+    {
+        pieces.next(alloc, &mut self.console)
+    }
 }
 
 /// How a recording ended.
@@ -49,6 +71,8 @@ impl<K: Sink, C: HostClock> RecordParts<K, C> {
 pub enum RunEnd {
     /// By the END event of this reason and code.
     End { reason: u8, code: u32 },
+    /// The console's source failed first.
+    ConsoleRead,
     /// The console's sink failed first.
     ConsoleWrite,
     /// The log's sink failed first.
@@ -59,6 +83,7 @@ pub enum RunEnd {
 /// What breaks a recording off.
 #[derive(Clone, Copy, Debug, PartialEq, Eq)]
 pub(crate) enum Break {
+    ConsoleRead,
     ConsoleWrite,
     LogWrite,
     NoMemory,
@@ -72,6 +97,7 @@ impl Break {
         ensures { result ≡ end_of self }
     {
         match self {
+            Break::ConsoleRead => RunEnd::ConsoleRead,
             Break::ConsoleWrite => RunEnd::ConsoleWrite,
             Break::LogWrite => RunEnd::LogWrite,
             Break::NoMemory => RunEnd::NoMemory,

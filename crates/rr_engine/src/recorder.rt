@@ -8,30 +8,32 @@ ghost use Rattle.rr_engine.specs.Recording.{IsOwed, IsNoTurn, Enters, Notes, Sho
 use crate::parts::{Break, RecordParts};
 use board::{AcceptError, Machine};
 use event_log::{Event, StreamError, WriteBehind};
-use outside::{HostClock, Sink};
+use io_workers::Pieces;
+use outside::{HostClock, Sink, Source};
 use std::alloc::Global;
 
-/// The machine, and what has gathered of its log.
+/// The machine, what has gathered of its log, and how far the console's input was read.
 #[derive(Drop)]
 pub(crate) struct Recorder {
     pub machine: Machine,
     pub log: WriteBehind,
+    pub pieces: Pieces,
 }
 
 impl Recorder {
     /// The machine takes an event that it accepts now, and the log gets it.
     #[tactic(auto, unfolding(board::specs::Runs::step))]
-    pub fn enter<K: Sink, C: HostClock>(
+    pub fn enter<S: Source, K: Sink, C: HostClock>(
         &mut self,
         alloc: Global,
         e: Event,
-        parts: &mut RecordParts<K, C>,
+        parts: &mut RecordParts<S, K, C>,
     ) -> Result<(), Break>
         requires works { self.old.log.failed ≡ false }
         requires owed { IsOwed self.old.machine e }
         requires is_no_turn { IsNoTurn e }
-        ensures { Enters (stand self.old.machine self.old.log parts.old)
-            (stand self.new.machine self.new.log parts.new) e result }
+        ensures { Enters (stand self.old parts.old)
+            (stand self.new parts.new) e result }
     {
         match self.machine.accept(&e, &[]) {
             Ok(()) => {}
@@ -43,16 +45,16 @@ impl Recorder {
 
     /// The log gets an event.
     #[tactic(auto, using(crate::proofs::Noting::noting))]
-    pub fn note<K: Sink, C: HostClock>(
+    pub fn note<S: Source, K: Sink, C: HostClock>(
         &mut self,
         alloc: Global,
         e: Event,
-        parts: &mut RecordParts<K, C>,
+        parts: &mut RecordParts<S, K, C>,
     ) -> Result<(), Break>
         requires works { self.old.log.failed ≡ false }
         requires spelled { IsEvent e }
-        ensures { Notes (stand self.old.machine self.old.log parts.old)
-            (stand self.new.machine self.new.log parts.new) (text e) result }
+        ensures { Notes (stand self.old parts.old)
+            (stand self.new parts.new) (text e) result }
     {
         match self.log.put(alloc, &e, &mut parts.log) {
             Ok(()) => Ok(()),
@@ -63,13 +65,13 @@ impl Recorder {
     }
 
     /// The console gets the bytes that it hasn't yet.
-    pub fn write_out<K: Sink, C: HostClock>(
+    pub fn write_out<S: Source, K: Sink, C: HostClock>(
         &mut self,
         alloc: Global,
-        parts: &mut RecordParts<K, C>,
+        parts: &mut RecordParts<S, K, C>,
     ) -> Result<(), Break>
-        ensures shows { Shows (stand self.old.machine self.old.log parts.old)
-            (stand self.new.machine self.new.log parts.new) result }
+        ensures shows { Shows (stand self.old parts.old)
+            (stand self.new parts.new) result }
     {
         let out = self.machine.take_out();
         match parts.out.put_all(&out) {

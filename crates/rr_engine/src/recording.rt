@@ -4,6 +4,8 @@ ghost use Rattle.std.specs.Prelude.{◌≡◌, None, [], false};
 ghost use Rattle.elf_load.specs.Load.{LiesInRam};
 ghost use Rattle.event_log.specs.HeaderFormat.{IsHeader, header_text};
 ghost use Rattle.event_log.specs.Writing.{none_written};
+ghost use Rattle.io_workers.specs.Intake.{none_given};
+ghost use Rattle.board.specs.declared.control.Window.TheVariants as Window;
 ghost use Rattle.rr_engine.specs.Stand.{stand};
 ghost use Rattle.rr_engine.specs.Recording.{Sent, sent_of};
 ghost use Rattle.rr_engine.specs.Runs.{Records, start_of, config_of, run_end_of};
@@ -13,7 +15,8 @@ use crate::recorder::Recorder;
 use board::{Config, Ending, Machine, Steps};
 use elf_load::Loaded;
 use event_log::{Header, StreamError, WriteBehind};
-use outside::{HostClock, Sink};
+use io_workers::Pieces;
+use outside::{HostClock, Sink, Source};
 use std::alloc::Global;
 use std::sync::ledger::Ledger;
 
@@ -34,14 +37,15 @@ pub(crate) fn config(header: &Header) -> Config
 ///
 /// The header is one write. What is recorded goes out whenever 65,536 bytes have gathered, and at
 /// the end. The console's bytes are written at each checkpoint and before an END of the machine's
-/// own. The first device that fails ends the recording: where it is the console's at a checkpoint,
-/// by END 3, which the log then has, unless its sink fails too. Where memory is refused for that
-/// END, the answer is want of memory.
-pub fn record_one<K: Sink, C: HostClock, L: Ledger>(
+/// own. At each checkpoint the console's input is then read once, as long as its end wasn't met.
+/// The first device that fails ends the recording: where it is the console at a checkpoint, by
+/// END 3, which the log then has, unless its sink fails too. Where memory is refused for that END,
+/// the answer is want of memory.
+pub fn record_one<S: Source, K: Sink, C: HostClock, L: Ledger>(
     alloc: Global,
     header: &Header,
     firmware: &Loaded,
-    parts: &mut RecordParts<K, C>,
+    parts: &mut RecordParts<S, K, C>,
     steps: &mut Steps<L>,
 ) -> RunEnd
     requires header { IsHeader header.now }
@@ -55,7 +59,11 @@ pub fn record_one<K: Sink, C: HostClock, L: Ledger>(
     let Ok(log) = WriteBehind::new(alloc) else {
         return RunEnd::NoMemory;
     };
-    let mut recorder = Recorder { machine, log };
+    let mut recorder = Recorder {
+        machine,
+        log,
+        pieces: Pieces::new(),
+    };
     run_end(recorder.record(alloc, header, parts, steps))
 }
 
@@ -74,16 +82,18 @@ fn run_end(recorded: Result<Ending, Break>) -> RunEnd
 
 impl Recorder {
     /// The header, what is due until the run has ended, and the rest of the log.
-    fn record<K: Sink, C: HostClock, L: Ledger>(
+    fn record<S: Source, K: Sink, C: HostClock, L: Ledger>(
         &mut self,
         alloc: Global,
         header: &Header,
-        parts: &mut RecordParts<K, C>,
+        parts: &mut RecordParts<S, K, C>,
         steps: &mut Steps<L>,
     ) -> Result<Ending, Break>
         requires header { IsHeader header.now }
         requires log { self.old.log ≡ none_written }
+        requires unread { self.old.pieces ≡ none_given }
         requires going { self.old.machine.control.ended ≡ None }
+        requires shut { self.old.machine.control.window ≡ Window.Shut }
         ensures { Records self.old.machine (header_text header.now) parts.old parts.new
             (run_end_of result) }
     {
@@ -106,29 +116,29 @@ impl Recorder {
     }
 
     /// The log gets the header.
-    fn begin<K: Sink, C: HostClock>(
+    fn begin<S: Source, K: Sink, C: HostClock>(
         &mut self,
         alloc: Global,
         header: &Header,
-        parts: &mut RecordParts<K, C>,
+        parts: &mut RecordParts<S, K, C>,
     ) -> Result<(), Break>
         requires header { IsHeader header.now }
         requires log { self.old.log ≡ none_written }
-        ensures sent { Sent (stand self.old.machine self.old.log parts.old)
-            (stand self.new.machine self.new.log parts.new) (header_text header.now) result }
+        ensures sent { Sent (stand self.old parts.old)
+            (stand self.new parts.new) (header_text header.now) result }
         ensures held { self.new.log.held ≡ [] }
     {
         sent(self.log.header(alloc, header, &mut parts.log))
     }
 
     /// What is held of the log is written.
-    pub fn finish<K: Sink, C: HostClock>(
+    pub fn finish<S: Source, K: Sink, C: HostClock>(
         &mut self,
-        parts: &mut RecordParts<K, C>,
+        parts: &mut RecordParts<S, K, C>,
     ) -> Result<(), Break>
         requires { self.old.log.failed ≡ false }
-        ensures { Sent (stand self.old.machine self.old.log parts.old)
-            (stand self.new.machine self.new.log parts.new) self.old.log.held result }
+        ensures { Sent (stand self.old parts.old)
+            (stand self.new parts.new) self.old.log.held result }
     {
         sent(self.log.finish(&mut parts.log))
     }

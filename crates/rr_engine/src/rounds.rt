@@ -4,34 +4,36 @@ ghost use Rattle.std.specs.Prelude.{◌≡◌, ◌<◌, OnOk, None, IsSome, fals
 ghost use Rattle.board.specs.Due.{due};
 ghost use Rattle.board.specs.Answers.{Counts};
 ghost use Rattle.rr_engine.specs.Stand.{stand};
-ghost use Rattle.rr_engine.specs.Recording.{Goes, EndsByItself};
-ghost use Rattle.rr_engine.specs.Work.{work};
+ghost use Rattle.rr_engine.specs.Recording.{Goes, Rests};
+ghost use Rattle.rr_engine.specs.Work.{work_left};
 
 use crate::parts::{Break, RecordParts};
 use crate::recorder::Recorder;
 use board::{Due, Steps};
 use event_log::Event;
-use outside::{HostClock, Sink};
+use outside::{HostClock, Sink, Source};
 use std::alloc::Global;
 use std::sync::ledger::Ledger;
 
 impl Recorder {
     /// As many turns as run, as one INSTRUCTION.
-    fn turns<K: Sink, C: HostClock, L: Ledger>(
+    fn turns<S: Source, K: Sink, C: HostClock, L: Ledger>(
         &mut self,
         alloc: Global,
-        parts: &mut RecordParts<K, C>,
+        parts: &mut RecordParts<S, K, C>,
         steps: &mut Steps<L>,
     ) -> Result<(), Break>
         requires works { self.old.log.failed ≡ false }
         requires due { due self.old.machine ≡ Due.Run }
         requires going { self.old.machine.control.ended ≡ None }
         requires counts { Counts self.old.machine.control self.old.machine.devices.time }
-        ensures goes { Goes (stand self.old.machine self.old.log parts.old)
-            (stand self.new.machine self.new.log parts.new) result }
+        requires rests { Rests (stand self.old parts.old) }
+        ensures goes { Goes false (stand self.old parts.old)
+            (stand self.new parts.new) result }
         ensures works { OnOk result (self.new.log.failed ≡ false) }
-        ensures progress { OnOk result (work self.new.machine < work self.old.machine) }
-        ensures own { OnOk result (EndsByItself self.new.machine) }
+        ensures progress { OnOk result (work_left self.new.machine self.new.pieces
+            < work_left self.old.machine self.old.pieces) }
+        ensures rests { OnOk result (Rests (stand self.new parts.new)) }
     {
         match self.machine.run(u32::MAX, steps) {
             Ok(count) => self.note(alloc, Event::Instruction(count), parts),
@@ -40,39 +42,43 @@ impl Recorder {
     }
 
     /// A value of the host's clock, as one CLOCK.
-    fn clock<K: Sink, C: HostClock>(
+    fn clock<S: Source, K: Sink, C: HostClock>(
         &mut self,
         alloc: Global,
-        parts: &mut RecordParts<K, C>,
+        parts: &mut RecordParts<S, K, C>,
     ) -> Result<(), Break>
         requires works { self.old.log.failed ≡ false }
         requires due { due self.old.machine ≡ Due.Clock }
         requires going { self.old.machine.control.ended ≡ None }
         requires counts { Counts self.old.machine.control self.old.machine.devices.time }
-        ensures goes { Goes (stand self.old.machine self.old.log parts.old)
-            (stand self.new.machine self.new.log parts.new) result }
+        requires rests { Rests (stand self.old parts.old) }
+        ensures goes { Goes false (stand self.old parts.old)
+            (stand self.new parts.new) result }
         ensures works { OnOk result (self.new.log.failed ≡ false) }
-        ensures progress { OnOk result (work self.new.machine < work self.old.machine) }
-        ensures own { OnOk result (EndsByItself self.new.machine) }
+        ensures progress { OnOk result (work_left self.new.machine self.new.pieces
+            < work_left self.old.machine self.old.pieces) }
+        ensures rests { OnOk result (Rests (stand self.new parts.new)) }
     {
         let value = parts.now();
         self.enter(alloc, Event::Clock(value), parts)
     }
 
     /// What is due, whatever it is.
-    pub fn round<K: Sink, C: HostClock, L: Ledger>(
+    pub fn round<S: Source, K: Sink, C: HostClock, L: Ledger>(
         &mut self,
         alloc: Global,
-        parts: &mut RecordParts<K, C>,
+        parts: &mut RecordParts<S, K, C>,
         steps: &mut Steps<L>,
     ) -> Result<(), Break>
         requires works { self.old.log.failed ≡ false }
         requires going { self.old.machine.control.ended ≡ None }
-        ensures goes { Goes (stand self.old.machine self.old.log parts.old)
-            (stand self.new.machine self.new.log parts.new) result }
+        requires rests { Rests (stand self.old parts.old) }
+        ensures goes { Goes false (stand self.old parts.old)
+            (stand self.new parts.new) result }
         ensures works { OnOk result (self.new.log.failed ≡ false) }
-        ensures progress { OnOk result (work self.new.machine < work self.old.machine) }
-        ensures own { OnOk result (EndsByItself self.new.machine) }
+        ensures progress { OnOk result (work_left self.new.machine self.new.pieces
+            < work_left self.old.machine self.old.pieces) }
+        ensures rests { OnOk result (Rests (stand self.new parts.new)) }
     {
         match self.machine.due() {
             Due::Run => self.turns(alloc, parts, steps),
@@ -87,19 +93,20 @@ impl Recorder {
     }
 
     /// Round after round, until the run has ended.
-    pub fn run<K: Sink, C: HostClock, L: Ledger>(
+    pub fn run<S: Source, K: Sink, C: HostClock, L: Ledger>(
         &mut self,
         alloc: Global,
-        parts: &mut RecordParts<K, C>,
+        parts: &mut RecordParts<S, K, C>,
         steps: &mut Steps<L>,
     ) -> Result<(), Break>
         requires works { self.old.log.failed ≡ false }
         requires going { self.old.machine.control.ended ≡ None }
-        ensures goes { Goes (stand self.old.machine self.old.log parts.old)
-            (stand self.new.machine self.new.log parts.new) result }
+        requires rests { Rests (stand self.old parts.old) }
+        ensures goes { Goes false (stand self.old parts.old)
+            (stand self.new parts.new) result }
         ensures works { OnOk result (self.new.log.failed ≡ false) }
         ensures ended { OnOk result (IsSome self.new.machine.control.ended) }
-        ensures own { OnOk result (EndsByItself self.new.machine) }
+        ensures rests { OnOk result (Rests (stand self.new parts.new)) }
     {
         'rounds: while self.machine.ended().is_none() {
             match self.round(alloc, parts, steps) {

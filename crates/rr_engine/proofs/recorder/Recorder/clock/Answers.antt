@@ -1,7 +1,7 @@
 use Rattle.std.proofs.Common.{arith}
 use Rattle.rr_engine.specs.Stand.{stand}
 use Rattle.rr_engine.proofs.Owing.{owes_clock}
-use Rattle.rr_engine.proofs.Rounding.{clock-goes, entered-falls, entered-own}
+use Rattle.rr_engine.proofs.Rounding.{clock-goes, clock-rests, entered-falls, all-falls, inner-rests, entered-input}
 use Rattle.rr_engine.proofs.recorder.Recorder.clock.Goals as goal
 
 pub enter-requires-clause-owed : goal.enter-requires-clause-owed
@@ -9,14 +9,19 @@ enter-requires-clause-owed g c = owes_clock c.args.self.now.machine c.now-value.
 
 pub returns-clause-goes : goal.returns-clause-goes
 returns-clause-goes g c =
-    clock-goes c.args.self.now.machine c.args.self.now.log c.args.parts.now c.now-value.new.self _ c.now-value.result _
+    clock-goes c.args.self.now c.args.parts.now c.now-value.new.self _ c.now-value.result _
     c.now-value.ensures.rest c.now-value.ensures.value (omega arith) c.enter.ensures
 
 pub returns-clause-progress : goal.returns-clause-progress
 returns-clause-progress g c =
-    entered-falls (stand c.args.self.now.machine c.args.self.now.log c.now-value.new.self) _ _ _ tt c.requires.counts c.requires.going
-    c.enter.ensures
+    let p = stand c.args.self.now c.now-value.new.self in
+    let q = stand c.enter.new.self c.enter.new.parts in
+    all-falls p q _ (entered-input p q _ _ c.enter.ensures)
+    (entered-falls p q _ _ tt c.requires.counts c.requires.going c.enter.ensures)
 
-pub returns-clause-own : goal.returns-clause-own
-returns-clause-own g c =
-    entered-own (stand c.args.self.now.machine c.args.self.now.log c.now-value.new.self) _ _ _ tt tt c.requires.going c.enter.ensures
+pub returns-clause-rests : goal.returns-clause-rests
+returns-clause-rests g c =
+    let p = stand c.args.self.now c.now-value.new.self in
+    inner-rests p _ _ _ tt c.requires.going
+    (clock-rests c.args.self.now c.args.parts.now c.now-value.new.self c.now-value.ensures.rest c.requires.rests)
+    c.enter.ensures

@@ -4,5 +4,5 @@ use Rattle.rr_engine.proofs.recorder.Recorder.enter.Goals as goal
 
 pub returns : goal.returns
 returns g c =
-    enters-noted (stand c.args.self.now.machine c.args.self.now.log c.args.parts.now) _ _ _ _
+    enters-noted (stand c.args.self.now c.args.parts.now) _ _ _ _
     (step-accept _ _ _ c.requires.is_no_turn c.in-Ok.ensures) c.note.ensures

@@ -1,14 +1,49 @@
+use Rattle.std.proofs.Common.{true}
+use Rattle.std.specs.Prelude.{Ok, Err}
 use Rattle.rr_engine.specs.Stand.{stand}
+use Rattle.rr_engine.proofs.Joining.{begun-goes}
 use Rattle.rr_engine.proofs.Stopping.{shown, spills}
+use Rattle.rr_engine.proofs.Rounding.{shown-open, shown-silent, shown-over, shown-left}
 use Rattle.rr_engine.proofs.recorder.Recorder.show.Goals as goal
+
+pub listen-requires-clause-open : goal.listen-requires-clause-open
+listen-requires-clause-open g c =
+    shown-open (stand c.args.self.now c.args.parts.now) (stand c.write_out.new.self c.write_out.new.parts) (Ok tt)
+    c.in-Ok.ensures.shows c.requires.open
+
+pub listen-requires-clause-silent : goal.listen-requires-clause-silent
+listen-requires-clause-silent g c =
+    shown-silent (stand c.args.self.now c.args.parts.now) (stand c.write_out.new.self c.write_out.new.parts) (Ok tt)
+    c.in-Ok.ensures.shows
+
+pub listen-requires-clause-over : goal.listen-requires-clause-over
+listen-requires-clause-over g c =
+    shown-over (stand c.args.self.now c.args.parts.now) (stand c.write_out.new.self c.write_out.new.parts) (Ok tt)
+    c.in-Ok.ensures.shows c.requires.over
 
 pub returns-in-Ok-clause-goes : goal.returns-in-Ok-clause-goes
 returns-in-Ok-clause-goes g c =
-    shown (stand c.args.self.now.machine c.args.self.now.log c.args.parts.now)
-    (stand c.write_out.new.self.machine c.write_out.new.self.log c.write_out.new.parts) c.requires.works c.in-Ok.ensures.shows
+    let p = stand c.args.self.now c.args.parts.now in
+    let q = stand c.write_out.new.self c.write_out.new.parts in
+    begun-goes true true p q _ _ (shown true p q c.requires.works c.in-Ok.ensures.shows) c.listen.ensures.goes
+
+pub returns-in-Ok-clause-progress : goal.returns-in-Ok-clause-progress
+returns-in-Ok-clause-progress g c =
+    shown-left (stand c.args.self.now c.args.parts.now) (stand c.write_out.new.self c.write_out.new.parts) _ _
+    c.in-Ok.ensures.shows c.listen.ensures.progress
+
+pub stop-requires-clause-open : goal.stop-requires-clause-open
+stop-requires-clause-open g c =
+    shown-open (stand c.args.self.now c.args.parts.now) (stand c.write_out.new.self c.write_out.new.parts) (Err c.in-Err.broke)
+    c.in-Err.ensures.shows c.requires.open
+
+pub stop-requires-clause-silent : goal.stop-requires-clause-silent
+stop-requires-clause-silent g c =
+    shown-silent (stand c.args.self.now c.args.parts.now) (stand c.write_out.new.self c.write_out.new.parts) (Err c.in-Err.broke)
+    c.in-Err.ensures.shows
 
 pub returns-in-Err-clause-goes : goal.returns-in-Err-clause-goes
 returns-in-Err-clause-goes g c =
-    spills (stand c.args.self.now.machine c.args.self.now.log c.args.parts.now)
-    (stand c.write_out.new.self.machine c.write_out.new.self.log c.write_out.new.parts) _ _ _ _
+    spills true true (stand c.args.self.now c.args.parts.now)
+    (stand c.write_out.new.self c.write_out.new.parts) _ _ _ _
     c.or_memory.ensures c.in-Err.ensures.shows c.stop.ensures

@@ -1,0 +1,284 @@
+-- What events and turns leave of the window and of the end.
+use Rattle.std.proofs.Common.{◌≡◌, ℕ, zero, suc, ◌+◌, ◌≤◌, Bool, true, false, List, refl, sym, ap, ◌∙◌, subst, inl, inr, arith}
+use Rattle.std.specs.Prelude.{◌==◌, ◌&&◌, ◌⊎◌, Some, None, is_none, is_some, if◌then◌else◌}
+use Rattle.std.specs.declared.option.Option.{Option}
+use Rattle.std.proofs.lemmas.Bool.{cases_Bool}
+use Rattle.rv_exec.specs.declared.done.Done.{Done}
+use Rattle.rv_exec.specs.declared.done.Done.TheVariants as done
+use Rattle.rv_exec.specs.declared.hart.Hart.{Hart}
+use Rattle.event_log.specs.declared.event.Event.{Event}
+use Rattle.event_log.specs.declared.event.Event.TheVariants as event
+use Rattle.board.specs.declared.control.Control.{Control}
+use Rattle.board.specs.declared.control.Ending.{Ending}
+use Rattle.board.specs.declared.control.Window.{Window}
+use Rattle.board.specs.declared.control.Window.TheVariants as window
+use Rattle.board.specs.declared.devices.Devices.{Devices}
+use Rattle.board.specs.declared.due.Due.{Due}
+use Rattle.board.specs.declared.due.Due.TheVariants as due_is
+use Rattle.board.specs.State.{State}
+use Rattle.board.specs.Close.{wakes, deadline, rests, close_window, close}
+use Rattle.board.specs.Due.{is_idle_window, due, due_closed, has_in_flight, interrupt_of, needs_clock}
+use Rattle.board.specs.Accept.{accept, taken, takes, takes_interrupt, takes_input, is_open, used, received, with_used_window, in_window, ended, with_levels}
+use Rattle.board.specs.Lines.{levels}
+use Rattle.board.specs.Turn.{attempt, settle, turn, turn_closed}
+use Rattle.board.specs.Runs.{is_run, after, step}
+use Rattle.board.proofs.Counting.{close-keeps}
+use Rattle.rr_engine.specs.Recording.{IsOwn}
+use Rattle.rr_engine.specs.Work.{is_restless, work}
+use Rattle.rr_engine.proofs.Joining.{some_state, some_is}
+use Rattle.rr_engine.proofs.Owing.{level-keeps}
+use Rattle.rr_engine.proofs.Falling.{Means, means}
+use Rattle.rr_engine.proofs.Running.{bit-most}
+
+-- ---- closing a window
+
+rests-from : (u : Bool) (g : State) (at : Option ℕ) → (rests u g at).control.window ≡ window.Idle false
+    → g.control.window ≡ window.Idle false
+rests-from u g (Some at) e = absurd cc
+rests-from true g None e = absurd cc
+rests-from false g None e = e
+
+window-from : (w : Window) (g : State) → (close_window w g).control.window ≡ window.Idle false
+    → g.control.window ≡ window.Idle false
+window-from window.Shut g = λ e. e
+window-from (window.Slice u) g = λ e. absurd cc
+window-from (window.Idle u) g =
+    elim (cases_Bool (wakes g.hart g.devices)) [
+      | inl wakes_ ↦ rw wakes_ (λ e. absurd cc)
+      | inr rests_ ↦ rw rests_ (rests-from u g (deadline g.hart g.devices))
+    ]
+
+-- an idle window without an event stands only where it stood
+pub close-from : (g : State) → (close g).control.window ≡ window.Idle false → g.control.window ≡ window.Idle false
+unfolding close
+close-from g e = window-from g.control.window g e
+
+rests-idle : (u : Bool) (g : State) (at : Option ℕ) → g.control.window ≡ window.Idle u
+    → is_idle_window (rests u g at).control.window ≡ true → g.control.window ≡ window.Idle false
+rests-idle u g (Some at) is e = absurd cc
+rests-idle true g None is e = absurd cc
+rests-idle false g None is e = is
+
+window-idle : (w : Window) (g : State) → g.control.window ≡ w → is_idle_window (close_window w g).control.window ≡ true
+    → g.control.window ≡ window.Idle false
+window-idle window.Shut g is = λ e. absurd (not-idle (sym (ap is_idle_window is) ∙ e))
+  where
+    not-idle : false ≡ true → ⊥
+    not-idle e = cc
+window-idle (window.Slice u) g is = λ e. absurd cc
+window-idle (window.Idle u) g is =
+    elim (cases_Bool (wakes g.hart g.devices)) [
+      | inl wakes_ ↦ rw wakes_ (λ e. absurd cc)
+      | inr rests_ ↦ rw rests_ (rests-idle u g (deadline g.hart g.devices) is)
+    ]
+
+-- an end for want of a wake is due in an idle window without an event
+pub wakeless : (g : State) (reason code : ℕ) → due g ≡ due_is.End reason code → reason ≡ 1
+    → g.control.window ≡ window.Idle false
+unfolding due due_closed close
+wakeless g reason code d one =
+    let k = close g in
+    let m = means k.control k.devices.time.count k.devices.finisher (has_in_flight k.devices)
+    (is_some (interrupt_of k)) (needs_clock k) in
+    window-idle g.control.window g refl
+    (subst (λ (z : Due). Means k.control (is_some (interrupt_of k)) (needs_clock k) z) d m one)
+
+-- ---- events
+
+-- what an event without input leaves of the control of the state in which it was taken
+abbrev pub Leaves : Control → Event → Control → Type 0
+Leaves c (event.Checkpoint true) c' = (c'.window ≡ window.Idle false) × (c'.ended ≡ c.ended)
+Leaves c (event.Checkpoint false) c' = (c'.window ≡ window.Slice false) × (c'.ended ≡ c.ended)
+Leaves c (event.End reason code) c' =
+    (c'.window ≡ c.window) × (c'.ended ≡ Some (record { reason = reason; code = code }))
+Leaves c other c' = (c'.window ≡ c.window) × (c'.ended ≡ c.ended)
+
+interrupt-leaves : (g : State) (o : Option ℕ) (h : State) → takes_interrupt g o ≡ Some h
+    → Leaves g.control event.Interrupt h.control
+interrupt-leaves g None h e = absurd cc
+interrupt-leaves g (Some which) h e =
+    subst (λ (z : State). Leaves g.control event.Interrupt z.control) (some_is _ h e) (refl, refl)
+
+end-leaves : (g h : State) (b : Bool) (reason code : ℕ)
+    → (if b then some_state (ended g reason code) else None) ≡ Some h → Leaves g.control (event.End reason code) h.control
+end-leaves g h true reason code e =
+    subst (λ (z : State). Leaves g.control (event.End reason code) z.control) (some_is (ended g reason code) h e) (refl, refl)
+end-leaves g h false reason code e = absurd cc
+
+takes-leaves : (d : Due) (e : Event) (g h : State) → takes d e g ≡ Some h → Leaves g.control e h.control
+takes-leaves due_is.Exception event.Exception g h e =
+    subst (λ (z : State). Leaves g.control event.Exception z.control) (some_is _ h e) (refl, refl)
+takes-leaves due_is.Interrupt event.Interrupt g h e = interrupt-leaves g (interrupt_of g) h e
+takes-leaves due_is.Idle (event.Checkpoint true) g h e =
+    subst (λ (z : State). Leaves g.control (event.Checkpoint true) z.control) (some_is _ h e) (refl, refl)
+takes-leaves due_is.Slice (event.Checkpoint false) g h e =
+    subst (λ (z : State). Leaves g.control (event.Checkpoint false) z.control) (some_is _ h e) (refl, refl)
+takes-leaves due_is.Clock (event.Clock value) g h e =
+    subst (λ (z : State). Leaves g.control (event.Clock value) z.control) (some_is _ h e) (refl, refl)
+takes-leaves (due_is.End r c) (event.End reason code) g h e = end-leaves g h (r == reason && c == code) reason code e
+takes-leaves d e g h s = absurd cc
+
+-- the control of the state in which an event was taken: its window is closed, but for END 3
+abbrev pub From : State → Event → Control → Type 0
+From g e c = Leaves (close g).control e c ⊎ Leaves g.control e c
+
+conclusion-leaves : (b : Bool) (g h : State) (reason code : ℕ)
+    → (if b then in_window g (ended g reason code) else takes (due g) (event.End reason code) (close g)) ≡ Some h
+    → From g (event.End reason code) h.control
+conclusion-leaves true g h reason code e = inr (end-leaves g h (takes_input g.control) reason code e)
+conclusion-leaves false g h reason code e = inl (takes-leaves (due g) (event.End reason code) (close g) h e)
+
+taken-leaves : (e : Event) (g h : State) → IsOwn e → taken g e ≡ Some h → From g e h.control
+unfolding taken
+taken-leaves (event.Instruction n) g h own t = absurd own
+taken-leaves event.Interrupt g h own t = inl (takes-leaves (due g) event.Interrupt (close g) h t)
+taken-leaves event.Exception g h own t = inl (takes-leaves (due g) event.Exception (close g) h t)
+taken-leaves (event.CharRead bytes) g h own t = absurd own
+taken-leaves (event.Block id ok) g h own t = absurd own
+taken-leaves (event.Net packet) g h own t = absurd own
+taken-leaves (event.Clock value) g h own t = inl (takes-leaves (due g) (event.Clock value) (close g) h t)
+taken-leaves (event.Checkpoint idle) g h own t = inl (takes-leaves (due g) (event.Checkpoint idle) (close g) h t)
+taken-leaves (event.End reason code) g h own t = conclusion-leaves (reason == 3) g h reason code t
+
+accept-leaves : (e : Event) (g h : State) → IsOwn e → accept g e ≡ Some h → From g e h.control
+unfolding accept
+accept-leaves e g h own a = level-keeps (From g e) (taken g e) h a (λ k t. taken-leaves e g k own t)
+
+step-leaves : (e : Event) (g h : State) → IsOwn e → step g e ≡ Some h → From g e h.control
+unfolding step
+step-leaves (event.Instruction n) g h own s = absurd own
+step-leaves event.Interrupt g h own s = accept-leaves event.Interrupt g h own s
+step-leaves event.Exception g h own s = accept-leaves event.Exception g h own s
+step-leaves (event.CharRead bytes) g h own s = absurd own
+step-leaves (event.Block id ok) g h own s = absurd own
+step-leaves (event.Net packet) g h own s = absurd own
+step-leaves (event.Clock value) g h own s = accept-leaves (event.Clock value) g h own s
+step-leaves (event.Checkpoint idle) g h own s = accept-leaves (event.Checkpoint idle) g h own s
+step-leaves (event.End reason code) g h own s = accept-leaves (event.End reason code) g h own s
+
+-- an event that neither opens a window nor ends the run
+abbrev pub IsInner : Event → Type 0
+IsInner event.Interrupt = Unit {0}
+IsInner event.Exception = Unit {0}
+IsInner (event.Clock value) = Unit {0}
+IsInner other = ⊥
+
+inner-own : (e : Event) → IsInner e → IsOwn e
+inner-own event.Interrupt i = tt
+inner-own event.Exception i = tt
+inner-own (event.Clock value) i = tt
+inner-own (event.Instruction n) i = absurd i
+inner-own (event.CharRead bytes) i = absurd i
+inner-own (event.Block id ok) i = absurd i
+inner-own (event.Net packet) i = absurd i
+inner-own (event.Checkpoint idle) i = absurd i
+inner-own (event.End reason code) i = absurd i
+
+inner-leaves : (e : Event) (c c' : Control) → IsInner e → Leaves c e c' → (c'.window ≡ c.window) × (c'.ended ≡ c.ended)
+inner-leaves event.Interrupt c c' i l = l
+inner-leaves event.Exception c c' i l = l
+inner-leaves (event.Clock value) c c' i l = l
+inner-leaves (event.Instruction n) c c' i l = absurd i
+inner-leaves (event.CharRead bytes) c c' i l = absurd i
+inner-leaves (event.Block id ok) c c' i l = absurd i
+inner-leaves (event.Net packet) c c' i l = absurd i
+inner-leaves (event.Checkpoint idle) c c' i l = absurd i
+inner-leaves (event.End reason code) c c' i l = absurd i
+
+-- such an event leaves an idle window where it stood, and ends nothing
+pub inner-idle : (e : Event) (g h : State) → IsInner e → step g e ≡ Some h → h.control.window ≡ window.Idle false
+    → g.control.window ≡ window.Idle false
+inner-idle e g h i s w =
+    elim (step-leaves e g h (inner-own e i) s) [
+      | inl l ↦ close-from g (sym (inner-leaves e (close g).control h.control i l).0 ∙ w)
+      | inr l ↦ sym (inner-leaves e g.control h.control i l).0 ∙ w
+    ]
+
+pub inner-going : (e : Event) (g h : State) → IsInner e → step g e ≡ Some h → g.control.ended ≡ None
+    → h.control.ended ≡ None
+inner-going e g h i s going =
+    elim (step-leaves e g h (inner-own e i) s) [
+      | inl l ↦ (inner-leaves e (close g).control h.control i l).1 ∙ (close-keeps g).ended ∙ going
+      | inr l ↦ (inner-leaves e g.control h.control i l).1 ∙ going
+    ]
+
+-- so does END, and it ends by its reason
+pub end-idle : (g h : State) (reason code : ℕ) → step g (event.End reason code) ≡ Some h
+    → h.control.window ≡ window.Idle false → g.control.window ≡ window.Idle false
+end-idle g h reason code s w =
+    elim (step-leaves (event.End reason code) g h tt s) [
+      | inl l ↦ close-from g (sym l.0 ∙ w)
+      | inr l ↦ sym l.0 ∙ w
+    ]
+
+pub end-ended : (g h : State) (reason code : ℕ) → step g (event.End reason code) ≡ Some h
+    → h.control.ended ≡ Some (record { reason = reason; code = code })
+end-ended g h reason code s =
+    elim (step-leaves (event.End reason code) g h tt s) [
+      | inl l ↦ l.1
+      | inr l ↦ l.1
+    ]
+
+-- ---- turns
+
+settle-window : (g : State) (d : Done) (h : Hart) (b : Devices) → (settle g d h b).control.window ≡ g.control.window
+settle-window g (done.Retired idle) h b = refl
+settle-window g (done.Trap cause value) h b = refl
+settle-window g done.NeedClock h b = refl
+settle-window g done.NoMemory h b = refl
+
+turn-idle : (g : State) → (turn g).control.window ≡ window.Idle false → g.control.window ≡ window.Idle false
+unfolding turn turn_closed
+turn-idle g w =
+    let k = close g in
+    let o = attempt k.hart k.devices in
+    close-from g (sym (settle-window k o.done o.hart o.bus) ∙ w)
+
+pub after-idle : (n : ℕ) (g : State) → (after n g).control.window ≡ window.Idle false → g.control.window ≡ window.Idle false
+unfolding after
+after-idle zero g = λ w. w
+after-idle (suc n) g =
+    elim (cases_Bool (is_run (due g))) [
+      | inl on ↦ rw on (λ w. turn-idle g (after-idle n (turn g) w))
+      | inr off ↦ rw off (λ w. w)
+    ]
+
+-- ---- a piece of the input
+
+-- a piece marks the window, and ends nothing; it may wake an idle hart
+pub record Typed (g h : State) : Type 0 where
+  pub used : h.control.window ≡ window.Idle false → ⊥
+  pub going : h.control.ended ≡ None
+  pub work : work h ≤ work g + 2
+
+used-window : (w : Window) → is_open w ≡ true → used w ≡ window.Idle false → ⊥
+used-window window.Shut o e = absurd cc
+used-window (window.Slice u) o e = cc
+used-window (window.Idle u) o e = cc
+
+pub open-parts : (o : Option Ending) (w : Window) → (is_none o && is_open w) ≡ true → (o ≡ None) × (is_open w ≡ true)
+open-parts None w e = (refl, e)
+open-parts (Some ending) w e = absurd cc
+
+typed-to : (b : Bool) (k h : State) → b ≡ true → with_levels (if b then some_state k else None) ≡ Some h
+    → record k { devices = levels k.devices } ≡ h
+typed-to true k h on e = some_is _ h e
+typed-to false k h on e = absurd cc
+
+typed-marks : (g : State) (bytes : List ℕ) → takes_input g.control ≡ true
+    → (k : State) → k ≡ with_used_window (received g bytes) → Typed g (record k { devices = levels k.devices })
+unfolding work levels
+typed-marks g bytes opens k same =
+    let parts = open-parts g.control.ended g.control.window opens in
+    subst (λ (z : State). Typed g (record z { devices = levels z.devices })) (sym same) (record {
+      used = λ e. used-window g.control.window parts.1 e;
+      going = parts.0;
+      work = omega (arith, bit-most (g.control.idle && is_restless (used g.control.window)));
+    })
+
+pub types : (g h : State) (bytes : List ℕ) → takes_input g.control ≡ true → step g (event.CharRead bytes) ≡ Some h
+    → Typed g h
+unfolding step accept taken
+types g h bytes opens s =
+    let k = with_used_window (received g bytes) in
+    subst (Typed g) (typed-to (takes_input g.control) k h opens s) (typed-marks g bytes opens k refl)
