@@ -28,7 +28,7 @@ use Rattle.rr_engine.specs.Runs.{start_of}
 use Rattle.rrvm.specs.declared.difference.Difference.{Difference}
 use Rattle.rrvm.specs.declared.difference.Difference.TheVariants as difference
 use Rattle.rrvm.specs.declared.outcome.Outcome.{Outcome}
-use Rattle.rrvm.specs.declared.outcome.Outcome.TheVariants.{Printed, GuestEnded, IdleForEver, BudgetReached, BadWord, WordsMissing, CannotOpen, CannotRead, ConsoleFailed, LogFailed, LogUnreadable, BadFirmware, RecordingStopped, HeaderRefused, LogRefused, ImagesDiffer, LogTooLong, NoMemory}
+use Rattle.rrvm.specs.declared.outcome.Outcome.TheVariants.{Printed, GuestEnded, IdleForEver, BudgetReached, BadWord, WordsMissing, CannotOpen, CannotRead, ConsoleUnreadable, ConsoleFailed, LogFailed, LogUnreadable, BadFirmware, RecordingStopped, HeaderRefused, LogRefused, ImagesDiffer, LogTooLong, QuietFailed, NoMemory}
 use Rattle.rrvm.specs.Ledgers.{CountsStood}
 use Rattle.rrvm.specs.Outcomes.{status_of}
 use Rattle.rrvm.specs.Replays.{HasHeader, IsBadHeader, word_difference, IsBadImage, Starts, IsDifferent, IsReplayed, IsRefusedLog, IsReplayable, IsRefusable}
@@ -200,6 +200,7 @@ comes r log file h f old new (CannotOpen role) told held s stood k =
     absurd (rose-stood _ _ k stood.opening)
 comes r log file h f old new CannotRead told held s stood k =
     absurd (rose-stood _ _ k stood.firmware)
+comes r log file h f old new ConsoleUnreadable told held s stood k = absurd k
 comes r log file h f old new ConsoleFailed told held s stood k =
     absurd (rose-stood _ _ k.0 stood.console)
 comes r log file h f old new LogFailed told held s stood k = absurd k
@@ -225,6 +226,7 @@ comes r log file h f old new (ImagesDiffer which) told held s stood k =
     absurd (no-difference r log file (old.names r.bios) h other.0 f which held s other.1 other.2)
 comes r log file h f old new LogTooLong told held s stood k =
     inr (inr (inl (if-told (old.names r.log) log (λ xs. 2 ^ 40 < length xs) told k, refl)))
+comes r log file h f old new QuietFailed told held s stood k = absurd k
 comes r log file h f old new NoMemory told held s stood k = inr (inr (inr refl))
 
 explained-comes : (words : List (List ℕ)) (line : Reading) (old new : Ledger) (status : ℕ)

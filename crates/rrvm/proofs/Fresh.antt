@@ -1,86 +1,126 @@
--- A recording over devices that were just opened.
-use Rattle.std.proofs.Common.{ℕ, List, [], refl, sym, subst, append-nil}
-use Rattle.std.specs.Prelude.{Some}
+-- A recording over devices that were just opened, and were given back.
+use Rattle.std.proofs.Common.{◌≡◌, ℕ, ◌^◌, true, false, List, [], take, refl, sym, subst, append-nil}
+use Rattle.std.specs.Prelude.{Some, None, IfSome}
 use Rattle.std.specs.declared.option.Option.{Option}
+use Rattle.outside.specs.Ledger.{Ledger}
 use Rattle.outside.specs.Told.{Takes}
 use Rattle.outside.proofs.ToldLemmas.{Takes-start, TakesFront-all, TakesFront-start}
+use Rattle.elf_load.specs.declared.pieces.Loaded.{Loaded}
+use Rattle.event_log.specs.declared.event.Event.{Event}
+use Rattle.event_log.specs.declared.header.Header.{Header}
+use Rattle.event_log.specs.HeaderFormat.{header_text}
 use Rattle.board.specs.State.{State}
 use Rattle.rr_engine.specs.declared.parts.RunEnd.{RunEnd}
-use Rattle.rr_engine.specs.declared.parts.RunEnd.TheVariants.{End, ConsoleWrite, LogWrite, NoMemory}
-use Rattle.rr_engine.specs.Stand.{Outputs}
+use Rattle.rr_engine.specs.declared.parts.RunEnd.TheVariants.{End, ConsoleRead, ConsoleWrite, LogWrite, NoMemory}
+use Rattle.rr_engine.specs.Stand.{Devices}
+use Rattle.rr_engine.specs.Input.{typed, Hears}
 use Rattle.rr_engine.specs.Recording.{clock_values}
-use Rattle.rr_engine.specs.Runs.{RecordedWhole, RecordedFront, Whole, Front, Records}
-use Rattle.rrvm.specs.Endings.{IfEnds, IsFresh, recording_end_of}
+use Rattle.rr_engine.specs.Runs.{start_of, Came, Whole, Front, Records}
+use Rattle.rr_engine.proofs.Hearing.{hears-weak, read-weak}
+use Rattle.rrvm.specs.declared.recording.RecordingEnd.{RecordingEnd}
+use Rattle.rrvm.specs.Recordings.{opened_with, returned, HasWhole, HasFront}
+use Rattle.rrvm.specs.Endings.{IfEnds, IsFresh, closed, recording_end_of}
 
-whole-started : (start : State) (head : List ℕ) (old new : Outputs) (reason code : ℕ) → IsFresh old
-    → Whole start head old new reason code
-    → RecordedWhole start head (Some []) new.log (Some []) new.console (Some []) new.gave reason
-    code
-whole-started start head old new reason code fresh w = record {
+whole-started : (start : State) (head : List ℕ) (l k : Ledger) (old new : Devices) (reason code : ℕ)
+    → IsFresh l old → Whole start head old new reason code
+    → Whole start head (opened_with l) (returned (closed k new) new.input) reason code
+whole-started start head l k old new reason code fresh w = record {
   events = w.events;
   last = w.last;
   are = w.are;
   runs = w.runs;
   ended = w.ended;
-  log_taken = Takes-start old.log new.log _ fresh.log w.log_taken;
-  console_taken = Takes-start old.console new.console _ fresh.console w.console_taken;
-  clock_gave = Takes-start old.gave new.gave _ fresh.gave w.clock_gave;
+  log = Takes-start old.log new.log _ fresh.log w.log;
+  console = Takes-start old.console new.console _ fresh.console w.console;
+  input = subst (λ (o : Option (List ℕ)). Came true o new.input w.events) fresh.input w.input;
+  all_came = subst (λ (o : Option (List ℕ)). reason ≡ 1
+      → IfSome o (λ bytes. typed w.events ≡ take (2 ^ 40) bytes)) fresh.input w.all_came;
+  clock = Takes-start old.gave new.gave _ fresh.gave w.clock;
 }
 
-front-started : (start : State) (head : List ℕ) (old new : Outputs) → IsFresh old
+front-started : (start : State) (head : List ℕ) (l k : Ledger) (old new : Devices) → IsFresh l old
     → Front start head old new
-    → RecordedFront start head (Some []) new.log (Some []) new.console (Some []) new.gave
-front-started start head old new fresh f = record {
+    → Front start head (opened_with l) (returned (closed k new) new.input)
+front-started start head l k old new fresh f = record {
   events = f.events;
   last = f.last;
   are = f.are;
   runs = f.runs;
-  log_taken = TakesFront-start old.log new.log _ fresh.log f.log_taken;
-  console_taken = TakesFront-start old.console new.console _ fresh.console f.console_taken;
-  clock_gave = record {
-    more = f.clock_gave.more;
-    gave = Takes-start old.gave new.gave _ fresh.gave f.clock_gave.gave;
+  log = TakesFront-start old.log new.log _ fresh.log f.log;
+  console = TakesFront-start old.console new.console _ fresh.console f.console;
+  input = subst (λ (o : Option (List ℕ)). Came false o new.input f.events) fresh.input f.input;
+  clock = record {
+    more = f.clock.more;
+    gave = Takes-start old.gave new.gave _ fresh.gave f.clock.gave;
     all = λ same. absurd cc;
   };
 }
 
 -- a whole recording is one that may have broken off
-whole-front : (start : State) (head : List ℕ) (a b c d e f : Option (List ℕ)) (reason code : ℕ)
-    → RecordedWhole start head a b c d e f reason code → RecordedFront start head a b c d e f
-whole-front start head a b c d e f reason code w = record {
+heard-weak : (a : Option (List ℕ)) (es : List Event)
+    → IfSome a (λ bytes. (rest : List ℕ) × Hears true false (take (2 ^ 40) bytes) es rest)
+    → IfSome a (λ bytes. (rest : List ℕ) × Hears false false (take (2 ^ 40) bytes) es rest)
+heard-weak None es h = tt
+heard-weak (Some x) es h = (h.0, hears-weak false es (take (2 ^ 40) x) h.0 h.1)
+
+came-weak : (a b : Option (List ℕ)) (es : List Event) → Came true a b es → Came false a b es
+came-weak a b es c = record { read = read-weak a b es c.read; heard = heard-weak a es c.heard }
+
+whole-front : (start : State) (head : List ℕ) (old new : Devices) (reason code : ℕ)
+    → Whole start head old new reason code → Front start head old new
+whole-front start head old new reason code w = record {
   events = w.events;
   last = w.last;
   are = w.are;
   runs = w.runs;
-  log_taken = TakesFront-all a b _ w.log_taken;
-  console_taken = TakesFront-all c d _ w.console_taken;
-  clock_gave = record {
+  log = TakesFront-all old.log new.log _ w.log;
+  console = TakesFront-all old.console new.console _ w.console;
+  input = came-weak old.input new.input w.events w.input;
+  clock = record {
     more = [];
-    gave = subst (Takes e f)
-        (sym (append-nil (clock_values w.events))) w.clock_gave;
+    gave = subst (Takes old.gave new.gave) (sym (append-nil (clock_values w.events))) w.clock;
     all = λ same. refl;
   };
 }
 
-pub records-whole : (start : State) (head : List ℕ) (old new : Outputs) (end : RunEnd) → IsFresh old
-    → Records start head old new end
-    → IfEnds (recording_end_of end)
-    (λ reason code. RecordedWhole start head (Some []) new.log (Some []) new.console (Some [])
-    new.gave reason code)
-records-whole start head old new (End reason code) fresh r =
-    (whole-started start head old new reason code fresh r.0, r.1)
-records-whole start head old new ConsoleWrite fresh r = tt
-records-whole start head old new LogWrite fresh r = tt
-records-whole start head old new NoMemory fresh r = tt
+records-whole : (h : Header) (f : Loaded) (l k : Ledger) (old new : Devices) (end : RunEnd)
+    → IsFresh l old → Records (start_of h f) (header_text h) old new end
+    → IfEnds (recording_end_of end) (λ reason code. HasWhole h f l (closed k new) reason code)
+records-whole h f l k old new (End reason code) fresh r = (
+  (new.input, whole-started (start_of h f) (header_text h) l k old new reason code fresh r.0),
+  r.1,
+)
+records-whole h f l k old new ConsoleRead fresh r = tt
+records-whole h f l k old new ConsoleWrite fresh r = tt
+records-whole h f l k old new LogWrite fresh r = tt
+records-whole h f l k old new NoMemory fresh r = tt
 
-pub records-front : (start : State) (head : List ℕ) (old new : Outputs) (end : RunEnd) → IsFresh old
-    → Records start head old new end
-    → RecordedFront start head (Some []) new.log (Some []) new.console (Some []) new.gave
-records-front start head old new (End reason code) fresh r =
-    whole-front start head _ _ _ _ _ _ reason code
-    (whole-started start head old new reason code fresh r.0)
-records-front start head old new ConsoleWrite fresh r = front-started start head old new fresh r.0
-records-front start head old new LogWrite fresh r = front-started start head old new fresh r.0
-records-front start head old new NoMemory fresh r = front-started start head old new fresh r
+records-front : (start : State) (head : List ℕ) (old new : Devices) (end : RunEnd)
+    → Records start head old new end → Front start head old new
+records-front start head old new (End reason code) r =
+    whole-front start head old new reason code r.0
+records-front start head old new ConsoleRead r = r.0
+records-front start head old new ConsoleWrite r = r.0
+records-front start head old new LogWrite r = r.0
+records-front start head old new NoMemory r = r
 
-pub ruleset fresh = (records-whole, records-front)
+-- what a recording's devices tell, once they are given back
+pub recorded-whole : (h : Header) (f : Loaded) (l k m : Ledger) (old new : Devices) (end : RunEnd)
+    (result : RecordingEnd) → IsFresh l old
+    → Records (start_of h f) (header_text h) old new end → m ≡ closed k new
+    → result ≡ recording_end_of end
+    → IfEnds result (λ reason code. HasWhole h f l m reason code)
+recorded-whole h f l k m old new end result fresh r back is =
+    subst (λ (z : RecordingEnd). IfEnds z (λ reason code. HasWhole h f l m reason code)) (sym is)
+    (subst (λ (z : Ledger). IfEnds (recording_end_of end)
+    (λ reason code. HasWhole h f l z reason code)) (sym back)
+    (records-whole h f l k old new end fresh r))
+
+pub recorded-front : (h : Header) (f : Loaded) (l k m : Ledger) (old new : Devices) (end : RunEnd)
+    → IsFresh l old → Records (start_of h f) (header_text h) old new end → m ≡ closed k new
+    → HasFront h f l m
+recorded-front h f l k m old new end fresh r back =
+    let start = start_of h f in
+    let front = records-front start (header_text h) old new end r in
+    subst (λ (z : Ledger). HasFront h f l z) (sym back)
+    (new.input, front-started start (header_text h) l k old new fresh front)

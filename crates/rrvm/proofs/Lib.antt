@@ -8,3 +8,5 @@ pub mod Replayed
 pub mod Telling
 pub mod Completing
 pub mod Statuses
+pub mod DemoTurns
+pub mod DemoRuns

@@ -1,5 +1,5 @@
 -- The bytes of a log that was broken off: its accepted events, and a part of the next.
-use Rattle.std.proofs.Common.{◌≡◌, ℕ, false, List, [], ◌∷◌, ◌++◌, refl, sym, ap, ◌∙◌, inl, inr, append_assoc, subst, ◌⊎◌}
+use Rattle.std.proofs.Common.{◌≡◌, ℕ, ◌^◌, false, List, [], ◌∷◌, ◌++◌, refl, sym, ap, ◌∙◌, inl, inr, append_assoc, subst, ◌⊎◌, take}
 use Rattle.std.specs.Prelude.{Some, None, IfSome}
 use Rattle.std.specs.declared.option.Option.{Option}
 use Rattle.std.specs.List.{AllByRecursion}
@@ -13,8 +13,11 @@ use Rattle.board.specs.State.{State}
 use Rattle.board.specs.Runs.{step, run, then_run}
 use Rattle.board.specs.Taken.{with_out, without_out, map_out}
 use Rattle.board.proofs.TakenLaws.{run-with}
+use Rattle.rr_engine.specs.Stand.{Devices}
+use Rattle.rr_engine.specs.Input.{Hears}
 use Rattle.rr_engine.specs.Recording.{clock_values, Gave}
-use Rattle.rr_engine.specs.Runs.{RecordedFront, OneIsFront, IsPartOfEvent, IsLogOf}
+use Rattle.rr_engine.specs.Runs.{Came, Front, OneIsFront, IsPartOfEvent, IsLogOf}
+use Rattle.rr_engine.proofs.Hearing.{hears-front}
 use Rattle.rr_engine.proofs.Joining.{some_is, then-more, run-none, values-append}
 use Rattle.rr_engine.proofs.Stopping.{with-taken}
 
@@ -108,14 +111,38 @@ clock-any : (gave : Option (List ℕ))
 clock-any None = tt
 clock-any (Some values) = (values, refl)
 
-log-of : (start : State) (head bytes : List ℕ) (console gave : Option (List ℕ))
+input-front : (input left : Option (List ℕ)) (es fs : List Event) → Came false input left (es ++ fs)
+    → IfSome input (λ bytes. (rest : List ℕ) × Hears false false (take (2 ^ 40) bytes) es rest)
+input-front None left es fs c = tt
+input-front (Some x) left es fs c =
+    hears-front false false es fs (take (2 ^ 40) x) c.heard.0 c.heard.1
+
+input-any : (input : Option (List ℕ))
+    → IfSome input (λ bytes. (rest : List ℕ) × Hears false false (take (2 ^ 40) bytes) [] rest)
+input-any None = tt
+input-any (Some x) = (take (2 ^ 40) x, (λ whole. absurd cc, refl))
+
+-- devices that tell this
+abbrev pub told : Option (List ℕ) → Option (List ℕ) → Option (List ℕ) → Option (List ℕ) → Devices
+told log console input gave = record {
+  log = log;
+  log_faults = 0;
+  console = console;
+  console_faults = 0;
+  input = input;
+  input_faults = 0;
+  gave = gave;
+}
+
+log-of : (start : State) (head bytes : List ℕ) (console input left gave : Option (List ℕ))
     → start.devices.uart.out ≡ []
-    → RecordedFront start head (Some []) (Some bytes) (Some []) console (Some []) gave
-    → IsLogOf start head bytes console gave
-log-of start head bytes console gave none f =
-    let whole : head ++ texts f.events ≡ bytes ++ f.log_taken.rest =
-    f.log_taken.whole ∙ ap (λ z. z ++ f.log_taken.rest) (sym f.log_taken.taken) in
-    elim (cut head (texts f.events) bytes f.log_taken.rest whole) [
+    → Front start head (told (Some []) (Some []) input (Some []))
+    (told (Some bytes) console left gave)
+    → IsLogOf start head bytes console input gave
+log-of start head bytes console input left gave none f =
+    let whole : head ++ texts f.events ≡ bytes ++ f.log.rest =
+    f.log.whole ∙ ap (λ z. z ++ f.log.rest) (sym f.log.taken) in
+    elim (cut head (texts f.events) bytes f.log.rest whole) [
       | inl c ↦ record {
         events = [];
         last = start;
@@ -123,10 +150,11 @@ log-of start head bytes console gave none f =
         runs = run-none start;
         spelled = inl (refl, c);
         console_shown = console-none start console none;
+        input_came = input-any input;
         clock_gave = clock-any gave;
       }
       | inr c ↦
-          let t = front_of_texts f.events c.0 f.log_taken.rest c.2 in
+          let t = front_of_texts f.events c.0 f.log.rest c.2 in
           let r = run-cut t.whole t.left start f.last
           (ap (λ z. run start z) (sym t.events) ∙ f.runs) in
           let all = subst (AllByRecursion IsEvent) t.events f.are in
@@ -142,17 +170,20 @@ log-of start head bytes console gave none f =
               part-of-event t.left t.part
                   (all-rest t.whole t.left all) t.next,
             );
-            console_shown = console-front console r.0 f.last more.0 more.1 f.console_taken;
+            console_shown = console-front console r.0 f.last more.0 more.1 f.console;
+            input_came = input-front input left t.whole t.left
+                (subst (λ (z : List Event). Came false input left z) t.events f.input);
             clock_gave = clock-front gave t.whole t.left
                 (subst (λ (z : List Event). Gave false (Some []) gave (clock_values z)) t.events
-                f.clock_gave);
+                f.clock);
           }
     ]
 
 -- of a log that was broken off, what its bytes are, where they are told
-pub is_log : (start : State) (head : List ℕ) (log console gave : Option (List ℕ))
+pub is_log : (start : State) (head : List ℕ) (log console input left gave : Option (List ℕ))
     → start.devices.uart.out ≡ []
-    → RecordedFront start head (Some []) log (Some []) console (Some []) gave
-    → IfSome log (λ bytes. IsLogOf start head bytes console gave)
-is_log start head None console gave none f = tt
-is_log start head (Some bytes) console gave none f = log-of start head bytes console gave none f
+    → Front start head (told (Some []) (Some []) input (Some [])) (told log console left gave)
+    → IfSome log (λ bytes. IsLogOf start head bytes console input gave)
+is_log start head None console input left gave none f = tt
+is_log start head (Some bytes) console input left gave none f =
+    log-of start head bytes console input left gave none f

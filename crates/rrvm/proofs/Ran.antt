@@ -6,25 +6,27 @@ use Rattle.std.proofs.lemmas.Bool.{eqb-true, eqb-false}
 use Rattle.outside.specs.Causes.{Rose}
 use Rattle.outside.specs.Ledger.{Ledger}
 use Rattle.outside.specs.Roles.{at}
-use Rattle.outside.specs.declared.roles.Role.TheVariants.{ConsoleOut, LogOut}
+use Rattle.outside.specs.declared.roles.Role.TheVariants.{ConsoleIn, ConsoleOut, LogOut, Firmware as FirmwareRole}
 use Rattle.command_line.specs.Words.{Recording, Records}
 use Rattle.elf_load.specs.declared.pieces.Loaded.{Loaded}
 use Rattle.event_log.specs.declared.header.Header.{Header}
 use Rattle.event_log.specs.HeaderFormat.{header_text}
 use Rattle.board.specs.Reset.{reset}
-use Rattle.rr_engine.specs.Runs.{start_of, IsOwnReason, IsLogOf}
+use Rattle.rr_engine.specs.Runs.{start_of, Whole, Front, IsOwnReason, IsLogOf}
 use Rattle.rrvm.specs.declared.firmware.Firmware.{Firmware}
 use Rattle.rrvm.specs.declared.firmware.TheConstants.{FIRMWARE_LIMIT}
 use Rattle.rrvm.specs.declared.recording.RecordingEnd.{RecordingEnd}
 use Rattle.rrvm.specs.declared.recording.RecordingEnd.TheVariants as ends
 use Rattle.rrvm.specs.declared.outcome.Outcome.{Outcome}
 use Rattle.rrvm.specs.declared.outcome.Outcome.TheVariants as outcome
+use Rattle.rrvm.specs.Ledgers.{only}
 use Rattle.rrvm.specs.Firmwares.{IsFirmwareOf}
-use Rattle.rrvm.specs.Recordings.{header_of, HasWhole, HasFront, IsRecorded, IsLogged, IsGood}
+use Rattle.rrvm.specs.Recordings.{returned, HasWhole, HasFront, IsRecorded, IsLogged, IsGood}
+use Rattle.rrvm.specs.Headers.{header_of}
 use Rattle.rrvm.specs.Endings.{IfEnds}
 use Rattle.rrvm.specs.Asking.{recording_header, ending_outcome_of}
 use Rattle.rrvm.specs.Answers.{Cause}
-use Rattle.rrvm.proofs.Logs.{is_log}
+use Rattle.rrvm.proofs.Logs.{told, is_log}
 
 -- a file that was held gave this firmware
 abbrev pub Gives : Option (List ℕ) → ℕ → Firmware → Type 0
@@ -39,39 +41,65 @@ header-same : (r : Recording) (file : List ℕ) (f : Firmware) (h : Header)
     → IsFirmwareOf file r.ram_mib f → h ≡ header_of r file
 header-same r file f h same is = same ∙ ap (λ digest. recording_header r digest) is.digest
 
-logged-as : (start : Loaded) (r : Recording) (file : List ℕ) (l : Ledger)
-    → HasFront (header_of r file) start l
-    → IfSome (at l.last LogOut) (λ bytes.
+logged-as : (start : Loaded) (r : Recording) (file : List ℕ) (old new : Ledger)
+    → HasFront (header_of r file) start old new
+    → IfSome (at new.last LogOut) (λ bytes.
     IsLogOf (start_of (header_of r file) start) (header_text (header_of r file)) bytes
-    (at l.last ConsoleOut) l.clock)
-logged-as firmware r file l front =
+    (at new.last ConsoleOut) old.input new.clock)
+logged-as firmware r file old new front =
     is_log (start_of (header_of r file) firmware) (header_text (header_of r file))
-    (at l.last LogOut) (at l.last ConsoleOut) l.clock
-    (start-quiet (header_of r file) firmware) front
+    (at new.last LogOut) (at new.last ConsoleOut) old.input front.0 new.clock
+    (start-quiet (header_of r file) firmware) front.1
 
-pub run-logged : (held : Option (List ℕ)) (r : Recording) (f : Firmware) (h : Header) (l : Ledger)
-    → Gives held r.ram_mib f
-    → h ≡ recording_header r f.digest → HasFront h f.loaded l
-    → IfSome held (λ file. IsLogged r file l)
-run-logged None r f h l gives same front = tt
-run-logged (Some file) r f h l gives same front = record {
+-- the ledger once the firmware's file was read
+abbrev pub IsRead : Ledger → Ledger → Type 0
+IsRead old mid = mid ≡ record (only FirmwareRole old mid) { opening_faults = mid.opening_faults }
+
+-- what standard input holds is the same
+front-of : (h : Header) (f : Loaded) (old mid new : Ledger) → IsRead old mid
+    → HasFront h f mid new → HasFront h f old new
+front-of h f old mid new read front = (
+  front.0,
+  subst (λ (o : Option (List ℕ)). Front (start_of h f) (header_text h)
+      (told (Some []) (Some []) o (Some [])) (returned new front.0))
+      (ap (λ (l : Ledger). l.input) read) front.1,
+)
+
+whole-of : (h : Header) (f : Loaded) (old mid new : Ledger) (reason code : ℕ) → IsRead old mid
+    → HasWhole h f mid new reason code → HasWhole h f old new reason code
+whole-of h f old mid new reason code read whole = (
+  whole.0,
+  subst (λ (o : Option (List ℕ)). Whole (start_of h f) (header_text h)
+      (told (Some []) (Some []) o (Some [])) (returned new whole.0) reason code)
+      (ap (λ (l : Ledger). l.input) read) whole.1,
+)
+
+pub run-logged : (held : Option (List ℕ)) (r : Recording) (f : Firmware) (h : Header)
+    (old mid new : Ledger) → Gives held r.ram_mib f
+    → h ≡ recording_header r f.digest → IsRead old mid → HasFront h f.loaded mid new
+    → IfSome held (λ file. IsLogged r file old new)
+run-logged None r f h old mid new gives same read front = tt
+run-logged (Some file) r f h old mid new gives same read front = record {
   firmware = f.loaded;
   loads = gives.0.loads;
-  log = logged-as f.loaded r file l
-      (subst (λ (z : Header). HasFront z f.loaded l) (header-same r file f h same gives.0) front);
+  log = logged-as f.loaded r file old new
+      (subst (λ (z : Header). HasFront z f.loaded old new) (header-same r file f h same gives.0)
+      (front-of h f.loaded old mid new read front));
 }
 
-run-recorded : (held : Option (List ℕ)) (r : Recording) (f : Firmware) (h : Header) (l : Ledger)
-    (reason code : ℕ)
-    → Gives held r.ram_mib f → h ≡ recording_header r f.digest → HasWhole h f.loaded l reason code
-    → IfSome held (λ file. IsRecorded r file l reason code)
-run-recorded None r f h l reason code gives same whole = tt
-run-recorded (Some file) r f h l reason code gives same whole = record {
+run-recorded : (held : Option (List ℕ)) (r : Recording) (f : Firmware) (h : Header)
+    (old mid new : Ledger) (reason code : ℕ)
+    → Gives held r.ram_mib f → h ≡ recording_header r f.digest → IsRead old mid
+    → HasWhole h f.loaded mid new reason code
+    → IfSome held (λ file. IsRecorded r file old new reason code)
+run-recorded None r f h old mid new reason code gives same read whole = tt
+run-recorded (Some file) r f h old mid new reason code gives same read whole = record {
   firmware = f.loaded;
   loads = gives.0.loads;
   fits = gives.1;
-  whole = subst (λ (z : Header). HasWhole z f.loaded l reason code)
-      (header-same r file f h same gives.0) whole;
+  whole = subst (λ (z : Header). HasWhole z f.loaded old new reason code)
+      (header-same r file f h same gives.0)
+      (whole-of h f.loaded old mid new reason code read whole);
 }
 
 run-good : (held : Option (List ℕ)) (r : Recording) (f : Firmware) → Gives held r.ram_mib f
@@ -83,63 +111,70 @@ run-good (Some file) r f gives = record
 by-reason : (r : Recording) (old new : Ledger) (reason code : ℕ) (a b : Bool) → (reason == 0) ≡ a
     → (reason == 1) ≡ b
     → IsOwnReason reason code → IfSome (old.names r.bios)
-    (λ file. IsRecorded r file new reason code)
+    (λ file. IsRecorded r file old new reason code)
     → Cause (Records r) old new (if a then outcome.GuestEnded code else if b then
     outcome.IdleForEver else outcome.BudgetReached)
 by-reason r old new reason code true b e f own k =
-    subst (λ (z : ℕ). IfSome (old.names r.bios) (λ file. IsRecorded r file new z code))
+    subst (λ (z : ℕ). IfSome (old.names r.bios) (λ file. IsRecorded r file old new z code))
     (eqb-true reason 0 e) k
 by-reason r old new reason code false true e f own k =
     let one = eqb-true reason 1 f in
     let none = own.1 (omega (arith, one)) in
-    subst (λ (z : ℕ). IfSome (old.names r.bios) (λ file. IsRecorded r file new z 0)) one
-    (subst (λ (z : ℕ). IfSome (old.names r.bios) (λ file. IsRecorded r file new reason z)) none k)
+    subst (λ (z : ℕ). IfSome (old.names r.bios) (λ file. IsRecorded r file old new z 0)) one
+    (subst (λ (z : ℕ). IfSome (old.names r.bios) (λ file. IsRecorded r file old new reason z))
+    none k)
 by-reason r old new reason code false false e f own k =
     let not_zero = eqb-false reason 0 e in
     let not_one = eqb-false reason 1 f in
     let two : reason ≡ 2 = omega (arith, not_zero, not_one, own.0) in
     let none = own.1 (omega (arith, two)) in
-    subst (λ (z : ℕ). IfSome (old.names r.bios) (λ file. IsRecorded r file new z 0)) two
-    (subst (λ (z : ℕ). IfSome (old.names r.bios) (λ file. IsRecorded r file new reason z)) none k)
+    subst (λ (z : ℕ). IfSome (old.names r.bios) (λ file. IsRecorded r file old new z 0)) two
+    (subst (λ (z : ℕ). IfSome (old.names r.bios) (λ file. IsRecorded r file old new reason z))
+    none k)
 
 ending-cause : (r : Recording) (old mid new : Ledger) (f : Firmware) (h : Header)
     (end : RecordingEnd) → Gives (old.names r.bios) r.ram_mib f
     → h ≡ recording_header r f.digest
-    → IfEnds end (λ reason code. HasWhole h f.loaded new reason code)
+    → IfEnds end (λ reason code. HasWhole h f.loaded mid new reason code)
     → (end ≡ ends.CannotOpenLog → Rose mid.opening_faults new.opening_faults)
+    → (end ≡ ends.ConsoleUnreadable → Rose (at mid.faults ConsoleIn) (at new.faults ConsoleIn))
     → (end ≡ ends.ConsoleFailed → Rose (at mid.faults ConsoleOut) (at new.faults ConsoleOut))
     → (end ≡ ends.LogFailed → Rose (at mid.faults LogOut) (at new.faults LogOut))
-    → mid.opening_faults ≡ old.opening_faults → at mid.faults ConsoleOut ≡ at old.faults ConsoleOut
-    → at mid.faults LogOut ≡ at old.faults LogOut
+    → mid.opening_faults ≡ old.opening_faults → IsRead old mid
     → Cause (Records r) old new (ending_outcome_of end)
-ending-cause r old mid new f h (ends.End reason code) gives same whole a b c p q s =
+ending-cause r old mid new f h (ends.End reason code) gives same whole a i b c p read =
     by-reason r old new reason code (reason == 0) (reason == 1) refl refl whole.1
-    (run-recorded (old.names r.bios) r f h new reason code gives same whole.0)
-ending-cause r old mid new f h ends.CannotOpenLog gives same whole a b c p q s =
+    (run-recorded (old.names r.bios) r f h old mid new reason code gives same read whole.0)
+ending-cause r old mid new f h ends.CannotOpenLog gives same whole a i b c p read =
     subst (λ (z : ℕ). Rose z new.opening_faults) p (a refl)
-ending-cause r old mid new f h ends.ConsoleFailed gives same whole a b c p q s = (
-  subst (λ (z : ℕ). Rose z (at new.faults ConsoleOut)) q (b refl),
-  run-good (old.names r.bios) r
-      f gives,
+ending-cause r old mid new f h ends.ConsoleUnreadable gives same whole a i b c p read = (
+  subst (λ (z : ℕ). Rose z (at new.faults ConsoleIn))
+      (ap (λ (l : Ledger). at l.faults ConsoleIn) read) (i refl),
+  run-good (old.names r.bios) r f gives,
 )
-ending-cause r old mid new f h ends.LogFailed gives same whole a b c p q s = (
-  subst (λ (z : ℕ). Rose z (at new.faults LogOut)) s (c refl),
-  run-good (old.names r.bios) r f
-      gives,
+ending-cause r old mid new f h ends.ConsoleFailed gives same whole a i b c p read = (
+  subst (λ (z : ℕ). Rose z (at new.faults ConsoleOut))
+      (ap (λ (l : Ledger). at l.faults ConsoleOut) read) (b refl),
+  run-good (old.names r.bios) r f gives,
 )
-ending-cause r old mid new f h ends.NoMemory gives same whole a b c p q s = tt
+ending-cause r old mid new f h ends.LogFailed gives same whole a i b c p read = (
+  subst (λ (z : ℕ). Rose z (at new.faults LogOut))
+      (ap (λ (l : Ledger). at l.faults LogOut) read) (c refl),
+  run-good (old.names r.bios) r f gives,
+)
+ending-cause r old mid new f h ends.NoMemory gives same whole a i b c p read = tt
 
 pub run-cause : (r : Recording) (old mid new : Ledger) (f : Firmware) (h : Header)
     (end : RecordingEnd) (result : Outcome)
     → result ≡ ending_outcome_of end → Gives (old.names r.bios) r.ram_mib f
     → h ≡ recording_header r f.digest
-    → IfEnds end (λ reason code. HasWhole h f.loaded new reason code)
+    → IfEnds end (λ reason code. HasWhole h f.loaded mid new reason code)
     → (end ≡ ends.CannotOpenLog → Rose mid.opening_faults new.opening_faults)
+    → (end ≡ ends.ConsoleUnreadable → Rose (at mid.faults ConsoleIn) (at new.faults ConsoleIn))
     → (end ≡ ends.ConsoleFailed → Rose (at mid.faults ConsoleOut) (at new.faults ConsoleOut))
     → (end ≡ ends.LogFailed → Rose (at mid.faults LogOut) (at new.faults LogOut))
-    → mid.opening_faults ≡ old.opening_faults → at mid.faults ConsoleOut ≡ at old.faults ConsoleOut
-    → at mid.faults LogOut ≡ at old.faults LogOut
+    → mid.opening_faults ≡ old.opening_faults → IsRead old mid
     → Cause (Records r) old new result
-run-cause r old mid new f h end result is gives same whole a b c p q s =
+run-cause r old mid new f h end result is gives same whole a i b c p read =
     subst (λ (z : Outcome). Cause (Records r) old new z) (sym is)
-    (ending-cause r old mid new f h end gives same whole a b c p q s)
+    (ending-cause r old mid new f h end gives same whole a i b c p read)

@@ -7,26 +7,26 @@ use Rattle.outside.specs.Told.{Takes, TakesFront}
 use Rattle.outside.specs.Ledger.{Ledger}
 use Rattle.outside.specs.Roles.{at}
 use Rattle.outside.specs.declared.roles.Role.TheVariants.{ConsoleOut, LogIn, LogOut, Messages}
-use Rattle.command_line.specs.Words.{Recording, Replaying, Reading, Records, Replays, Help, Version, Bad, Early}
+use Rattle.command_line.specs.Words.{Recording, Replaying, Reading, Records, Replays, Demonstrates, Help, Version, Bad, Early}
 use Rattle.log_order.specs.declared.refusal.Refusal.{Refusal}
 use Rattle.rrvm.specs.declared.outcome.Outcome.{Outcome}
-use Rattle.rrvm.specs.declared.outcome.Outcome.TheVariants.{Printed, GuestEnded, IdleForEver, BudgetReached, BadWord, WordsMissing, CannotOpen, CannotRead, ConsoleFailed, LogFailed, LogUnreadable, BadFirmware, RecordingStopped, HeaderRefused, LogRefused, ImagesDiffer, LogTooLong, NoMemory}
+use Rattle.rrvm.specs.declared.outcome.Outcome.TheVariants.{Printed, GuestEnded, IdleForEver, BudgetReached, BadWord, WordsMissing, CannotOpen, CannotRead, ConsoleUnreadable, ConsoleFailed, LogFailed, LogUnreadable, BadFirmware, RecordingStopped, HeaderRefused, LogRefused, ImagesDiffer, LogTooLong, QuietFailed, NoMemory}
 use Rattle.rrvm.specs.Ledgers.{only, only_run}
 use Rattle.rrvm.specs.Outcomes.{status_of}
 use Rattle.rrvm.specs.Messages.{line_of}
 use Rattle.rrvm.specs.Recordings.{IsRecorded, IsLogged}
 use Rattle.rrvm.specs.Replays.{IsReplayed, IsRefusedLog, IsShown}
-use Rattle.rrvm.specs.Answers.{Cause, RecordCause, ReplayCause, PrintCause, Explained, IfBoth, IfRecords, IfReplays, IsPrinted}
+use Rattle.rrvm.specs.Answers.{Cause, RecordCause, ReplayCause, DemoCause, PrintCause, Explained, IfBoth, IfRecords, IfReplays, IfDemonstrates, IsPrinted, IsPrintedFront}
 
 -- the ledger after the messages were said
 abbrev said : Ledger → Ledger → Ledger
 said mid new = only Messages mid new
 
-recorded-stays : (o : Option (List ℕ)) (r : Recording) (mid new : Ledger) (reason code : ℕ)
-    → IfSome o (λ file. IsRecorded r file mid reason code)
-    → IfSome o (λ file. IsRecorded r file (said mid new) reason code)
-recorded-stays None r mid new reason code k = tt
-recorded-stays (Some file) r mid new reason code k = record
+recorded-stays : (o : Option (List ℕ)) (r : Recording) (old mid new : Ledger) (reason code : ℕ)
+    → IfSome o (λ file. IsRecorded r file old mid reason code)
+    → IfSome o (λ file. IsRecorded r file old (said mid new) reason code)
+recorded-stays None r old mid new reason code k = tt
+recorded-stays (Some file) r old mid new reason code k = record
     { firmware = k.firmware; loads = k.loads; fits = k.fits; whole = k.whole }
 
 replayed-stays : (o held : Option (List ℕ)) (r : Replaying) (mid new : Ledger) (reason code : ℕ)
@@ -75,17 +75,19 @@ shown-stays (Some log) (Some file) r mid new k = record {
   console = k.console;
 }
 
-logged-stays : (o : Option (List ℕ)) (r : Recording) (mid new : Ledger)
-    → IfSome o (λ file. IsLogged r file mid) → IfSome o (λ file. IsLogged r file (said mid new))
-logged-stays None r mid new k = tt
-logged-stays (Some file) r mid new k = record
+logged-stays : (o : Option (List ℕ)) (r : Recording) (old mid new : Ledger)
+    → IfSome o (λ file. IsLogged r file old mid)
+    → IfSome o (λ file. IsLogged r file old (said mid new))
+logged-stays None r old mid new k = tt
+logged-stays (Some file) r old mid new k = record
     { firmware = k.firmware; loads = k.loads; log = k.log }
 
 logs-stay : (r : Reading) (old mid new : Ledger)
-    → IfRecords r old (λ words file. IsLogged words file mid)
-    → IfRecords r old (λ words file. IsLogged words file (said mid new))
-logs-stay (Records words) old mid new k = logged-stays (old.names words.bios) words mid new k
+    → IfRecords r old (λ words file. IsLogged words file old mid)
+    → IfRecords r old (λ words file. IsLogged words file old (said mid new))
+logs-stay (Records words) old mid new k = logged-stays (old.names words.bios) words old mid new k
 logs-stay (Replays words) old mid new k = tt
+logs-stay (Demonstrates n) old mid new k = tt
 logs-stay Help old mid new k = tt
 logs-stay Version old mid new k = tt
 logs-stay (Bad n) old mid new k = tt
@@ -97,6 +99,7 @@ shows-stay : (r : Reading) (old mid new : Ledger)
 shows-stay (Records words) old mid new k = tt
 shows-stay (Replays words) old mid new k = shown-stays (old.names words.log) (old.names words.bios)
     words mid new k
+shows-stay (Demonstrates n) old mid new k = tt
 shows-stay Help old mid new k = tt
 shows-stay Version old mid new k = tt
 shows-stay (Bad n) old mid new k = tt
@@ -106,14 +109,15 @@ record-stays : (r : Recording) (old mid new : Ledger) (outcome : Outcome)
     → RecordCause r old mid outcome
     → RecordCause r old (said mid new) outcome
 record-stays r old mid new Printed k = k
-record-stays r old mid new (GuestEnded code) k = recorded-stays (old.names r.bios) r mid new 0 code
-    k
-record-stays r old mid new IdleForEver k = recorded-stays (old.names r.bios) r mid new 1 0 k
-record-stays r old mid new BudgetReached k = recorded-stays (old.names r.bios) r mid new 2 0 k
+record-stays r old mid new (GuestEnded code) k = recorded-stays (old.names r.bios) r old mid new 0
+    code k
+record-stays r old mid new IdleForEver k = recorded-stays (old.names r.bios) r old mid new 1 0 k
+record-stays r old mid new BudgetReached k = recorded-stays (old.names r.bios) r old mid new 2 0 k
 record-stays r old mid new (BadWord number) k = k
 record-stays r old mid new WordsMissing k = k
 record-stays r old mid new (CannotOpen role) k = k
 record-stays r old mid new CannotRead k = k
+record-stays r old mid new ConsoleUnreadable k = k
 record-stays r old mid new ConsoleFailed k = k
 record-stays r old mid new LogFailed k = k
 record-stays r old mid new LogUnreadable k = k
@@ -123,6 +127,7 @@ record-stays r old mid new (HeaderRefused offset) k = k
 record-stays r old mid new (LogRefused refusal) k = k
 record-stays r old mid new (ImagesDiffer which) k = k
 record-stays r old mid new LogTooLong k = k
+record-stays r old mid new QuietFailed k = k
 record-stays r old mid new NoMemory k = k
 
 replay-stays : (r : Replaying) (log : Option (List ℕ)) (old mid new : Ledger) (F : Type 0)
@@ -139,6 +144,7 @@ replay-stays r log old mid new F (BadWord number) k = k
 replay-stays r log old mid new F WordsMissing k = k
 replay-stays r log old mid new F (CannotOpen role) k = k
 replay-stays r log old mid new F CannotRead k = k
+replay-stays r log old mid new F ConsoleUnreadable k = k
 replay-stays r log old mid new F ConsoleFailed k = k
 replay-stays r log old mid new F LogFailed k = k
 replay-stays r log old mid new F LogUnreadable k = k
@@ -150,6 +156,7 @@ replay-stays r log old mid new F (LogRefused refusal) k = refused-stays log (old
     new refusal k
 replay-stays r log old mid new F (ImagesDiffer which) k = k
 replay-stays r log old mid new F LogTooLong k = k
+replay-stays r log old mid new F QuietFailed k = k
 replay-stays r log old mid new F NoMemory k = k
 
 print-stays : (r : Reading) (old mid new : Ledger) (outcome : Outcome)
@@ -163,6 +170,7 @@ print-stays r old mid new (BadWord number) f k = k
 print-stays r old mid new WordsMissing f k = k
 print-stays r old mid new (CannotOpen role) f k = k
 print-stays r old mid new CannotRead f k = k
+print-stays r old mid new ConsoleUnreadable f k = k
 print-stays r old mid new ConsoleFailed f k = k
 print-stays r old mid new LogFailed f k = k
 print-stays r old mid new LogUnreadable f k = k
@@ -172,7 +180,13 @@ print-stays r old mid new (HeaderRefused offset) f k = k
 print-stays r old mid new (LogRefused refusal) f k = k
 print-stays r old mid new (ImagesDiffer which) f k = k
 print-stays r old mid new LogTooLong f k = k
+print-stays r old mid new QuietFailed f k = k
 print-stays r old mid new NoMemory f k = k
+
+demo-stays : (n : ℕ) (old mid new : Ledger) (outcome : Outcome) → DemoCause n old mid outcome
+    → DemoCause n old (said mid new) outcome
+demo-stays n old mid new NoMemory k = tt
+demo-stays n old mid new outcome k = k
 
 cause-stays : (r : Reading) (old mid new : Ledger) (outcome : Outcome) → Cause r old mid outcome
     → Cause r old (said mid new) outcome
@@ -180,6 +194,7 @@ cause-stays (Records r) old mid new outcome k = record-stays r old mid new outco
 cause-stays (Replays r) old mid new outcome k =
     replay-stays r (old.names r.log) old mid new (Rose (at old.faults LogIn) (at mid.faults LogIn))
     outcome k
+cause-stays (Demonstrates n) old mid new outcome k = demo-stays n old mid new outcome k
 cause-stays Help old mid new outcome k = print-stays Help old mid new outcome (λ p. p) k
 cause-stays Version old mid new outcome k = print-stays Version old mid new outcome (λ p. p) k
 cause-stays (Bad n) old mid new outcome k = k
@@ -188,6 +203,7 @@ cause-stays Early old mid new outcome k = k
 no-memory : (r : Reading) (old new : Ledger) → Cause r old new NoMemory
 no-memory (Records r) old new = tt
 no-memory (Replays r) old new = tt
+no-memory (Demonstrates n) old new = tt
 no-memory Help old new = tt
 no-memory Version old new = tt
 no-memory (Bad n) old new = inr refl
@@ -226,15 +242,15 @@ told-explained words line r old mid new outcome told status e run same which cau
 
 pub told-log : (line r : Reading) (old mid new : Ledger) → line ≡ r → new ≡ said mid new
     → (at old.opened LogOut < at mid.opened LogOut
-    → IfRecords line old (λ words file. IsLogged words file mid))
+    → IfRecords line old (λ words file. IsLogged words file old mid))
     → at old.opened LogOut < at new.opened LogOut
-    → IfRecords r old (λ words file. IsLogged words file new)
+    → IfRecords r old (λ words file. IsLogged words file old new)
 told-log line r old mid new e same logged more =
     let opened : at new.opened LogOut ≡ at mid.opened LogOut = ap
     (λ (l : Ledger). at l.opened LogOut) same in
     let told = logged (subst (λ (z : ℕ). at old.opened LogOut < z) opened more) in
-    subst (λ (z : Reading). IfRecords z old (λ words file. IsLogged words file new)) e
-    (subst (λ (z : Ledger). IfRecords line old (λ words file. IsLogged words file z)) (sym same)
+    subst (λ (z : Reading). IfRecords z old (λ words file. IsLogged words file old new)) e
+    (subst (λ (z : Ledger). IfRecords line old (λ words file. IsLogged words file old z)) (sym same)
     (logs-stay line old mid new told))
 
 pub told-shown : (line r : Reading) (old mid new : Ledger) → line ≡ r → new ≡ said mid new
@@ -249,3 +265,26 @@ told-shown line r old mid new e same shows more =
     subst (λ (z : Reading). IfReplays z old (λ words log file. IsShown words log file new)) e
     (subst (λ (z : Ledger). IfReplays line old (λ words log file. IsShown words log file z))
     (sym same) (shows-stay line old mid new told))
+
+printed-stays : (r : Reading) (mid new : Ledger) → IfDemonstrates r (λ n. IsPrintedFront n mid)
+    → IfDemonstrates r (λ n. IsPrintedFront n (said mid new))
+printed-stays (Demonstrates n) mid new k = k
+printed-stays (Records words) mid new k = tt
+printed-stays (Replays words) mid new k = tt
+printed-stays Help mid new k = tt
+printed-stays Version mid new k = tt
+printed-stays (Bad n) mid new k = tt
+printed-stays Early mid new k = tt
+
+pub told-printed : (line r : Reading) (old mid new : Ledger) → line ≡ r → new ≡ said mid new
+    → (at old.opened ConsoleOut < at mid.opened ConsoleOut
+    → IfDemonstrates line (λ n. IsPrintedFront n mid))
+    → at old.opened ConsoleOut < at new.opened ConsoleOut
+    → IfDemonstrates r (λ n. IsPrintedFront n new)
+told-printed line r old mid new e same prints more =
+    let opened : at new.opened ConsoleOut ≡ at mid.opened ConsoleOut = ap
+    (λ (l : Ledger). at l.opened ConsoleOut) same in
+    let told = prints (subst (λ (z : ℕ). at old.opened ConsoleOut < z) opened more) in
+    subst (λ (z : Reading). IfDemonstrates z (λ n. IsPrintedFront n new)) e
+    (subst (λ (z : Ledger). IfDemonstrates line (λ n. IsPrintedFront n z)) (sym same)
+    (printed-stays line mid new told))

@@ -5,13 +5,14 @@ use Rattle.outside.specs.Causes.{Rose, Stood}
 use Rattle.outside.specs.Ledger.{Ledger}
 use Rattle.outside.specs.Told.{Takes, TakesFront}
 use Rattle.outside.specs.Roles.{at}
-use Rattle.outside.specs.declared.roles.Role.TheVariants.{ConsoleOut, LogIn, LogOut, Firmware, Messages}
-use Rattle.command_line.specs.Words.{Recording, Replaying, Reading, Records, Replays, Help, Version, Bad, Early}
+use Rattle.outside.specs.declared.roles.Role.TheVariants.{ConsoleIn, ConsoleOut, LogIn, LogOut, Firmware, Messages}
+use Rattle.command_line.specs.Words.{Recording, Replaying, Reading, Records, Replays, Demonstrates, Help, Version, Bad, Early}
 use Rattle.event_log.specs.declared.header.Header.{Header}
 use Rattle.rrvm.specs.declared.outcome.Outcome.{Outcome}
-use Rattle.rrvm.specs.declared.outcome.Outcome.TheVariants.{Printed, GuestEnded, IdleForEver, BudgetReached, BadWord, WordsMissing, CannotOpen, CannotRead, ConsoleFailed, LogFailed, LogUnreadable, BadFirmware, RecordingStopped, HeaderRefused, LogRefused, ImagesDiffer, LogTooLong, NoMemory}
+use Rattle.rrvm.specs.declared.outcome.Outcome.TheVariants.{Printed, GuestEnded, IdleForEver, BudgetReached, BadWord, WordsMissing, CannotOpen, CannotRead, ConsoleUnreadable, ConsoleFailed, LogFailed, LogUnreadable, BadFirmware, RecordingStopped, HeaderRefused, LogRefused, ImagesDiffer, LogTooLong, QuietFailed, NoMemory}
 use Rattle.rrvm.specs.declared.printing.TheConstants.{HELP, VERSION}
 use Rattle.rrvm.specs.Outcomes.{status_of}
+use Rattle.rrvm.specs.Demos.{Demonstration, demo_line}
 use Rattle.rrvm.specs.Firmwares.{IsBadFirmware}
 use Rattle.rrvm.specs.Recordings.{IsRecorded, IsGood}
 use Rattle.rrvm.specs.Replays.{HasHeader, IsBadHeader, word_difference, IsBadImage, IsStarted, IsReplayed, IsRefusedLog, IsDifferent}
@@ -41,13 +42,25 @@ AsksReplay other = ⊥
 abbrev pub IsPrinted : Reading → Ledger → Type 0
 IsPrinted Help l = Takes (Some []) (at l.last ConsoleOut) HELP.now
 IsPrinted Version l = Takes (Some []) (at l.last ConsoleOut) VERSION.now
+IsPrinted (Demonstrates n) l =
+    (d : Demonstration n) × Takes (Some []) (at l.last ConsoleOut) (demo_line n d)
 IsPrinted other l = ⊥
+
+-- A demonstration's line, or a front of it, was printed.
+abbrev pub IsPrintedFront : ℕ → Ledger → Type 0
+IsPrintedFront n l =
+    (d : Demonstration n) × TakesFront (Some []) (at l.last ConsoleOut) (demo_line n d)
+
+-- what holds where the words ask for a demonstration
+abbrev pub IfDemonstrates : Reading → (ℕ → Type 0) → Type 0
+IfDemonstrates (Demonstrates n) P = P n
+IfDemonstrates other P = ⊤
 
 -- The machine's run ended by this reason and code: of a recording, whose log is whole, or of a
 -- replay, whose log was accepted whole.
 abbrev pub IsEnded : Reading → Ledger → Ledger → ℕ → ℕ → Type 0
 IsEnded (Records r) old new reason code =
-    IfSome (old.names r.bios) (λ file. IsRecorded r file new reason code)
+    IfSome (old.names r.bios) (λ file. IsRecorded r file old new reason code)
 IsEnded (Replays r) old new reason code =
     IfBoth (old.names r.log) (old.names r.bios) (λ log file. IsReplayed r log file new reason code)
 IsEnded other old new reason code = ⊥
@@ -59,6 +72,9 @@ RecordCause r old new IdleForEver = IsEnded (Records r) old new 1 0
 RecordCause r old new BudgetReached = IsEnded (Records r) old new 2 0
 RecordCause r old new (CannotOpen role) = Rose old.opening_faults new.opening_faults
 RecordCause r old new CannotRead = Rose (at old.faults Firmware) (at new.faults Firmware)
+RecordCause r old new ConsoleUnreadable =
+    Rose (at old.faults ConsoleIn) (at new.faults ConsoleIn)
+    × IfSome (old.names r.bios) (λ file. IsGood r file)
 RecordCause r old new ConsoleFailed =
     Rose (at old.faults ConsoleOut) (at new.faults ConsoleOut)
     × IfSome (old.names r.bios) (λ file. IsGood r file)
@@ -109,12 +125,20 @@ PrintCause r old new ConsoleFailed = Rose (at old.faults ConsoleOut) (at new.fau
 PrintCause r old new NoMemory = ⊤
 PrintCause r old new other = ⊥
 
+-- when a demonstration has an outcome
+abbrev pub DemoCause : ℕ → Ledger → Ledger → Outcome → Type 0
+DemoCause n old new Printed = IsPrinted (Demonstrates n) new
+DemoCause n old new QuietFailed = Rose (at old.faults ConsoleOut) (at new.faults ConsoleOut)
+DemoCause n old new NoMemory = ⊤
+DemoCause n old new other = ⊥
+
 -- when an outcome comes
 abbrev pub Cause : Reading → Ledger → Ledger → Outcome → Type 0
 Cause (Records r) old new outcome = RecordCause r old new outcome
 Cause (Replays r) old new outcome =
     ReplayCause r (old.names r.log) old new (Rose (at old.faults LogIn) (at new.faults LogIn))
     outcome
+Cause (Demonstrates n) old new outcome = DemoCause n old new outcome
 Cause Help old new outcome = PrintCause Help old new outcome
 Cause Version old new outcome = PrintCause Version old new outcome
 Cause (Bad k) old new outcome = (outcome ≡ BadWord k) ⊎ (outcome ≡ NoMemory)

@@ -56,6 +56,7 @@ ending_outcome_of (ends.End reason code) =
     else if reason == 1 then outcome.IdleForEver
     else outcome.BudgetReached
 ending_outcome_of ends.CannotOpenLog = outcome.CannotOpen LogOut
+ending_outcome_of ends.ConsoleUnreadable = outcome.ConsoleUnreadable
 ending_outcome_of ends.ConsoleFailed = outcome.ConsoleFailed
 ending_outcome_of ends.LogFailed = outcome.LogFailed
 ending_outcome_of ends.NoMemory = outcome.NoMemory

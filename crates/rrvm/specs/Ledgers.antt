@@ -4,7 +4,7 @@ use Rattle.outside.specs.Causes.{Stood}
 use Rattle.outside.specs.Ledger.{Ledger}
 use Rattle.outside.specs.Roles.{at, put}
 use Rattle.outside.specs.declared.roles.Role.{Role}
-use Rattle.outside.specs.declared.roles.Role.TheVariants.{ConsoleOut, LogIn, LogOut, Firmware}
+use Rattle.outside.specs.declared.roles.Role.TheVariants.{ConsoleIn, ConsoleOut, LogIn, LogOut, Firmware}
 
 -- the old ledger with the counts and the bytes of one role from the new
 abbrev pub only : Role → Ledger → Ledger → Ledger
@@ -26,7 +26,8 @@ only_shared old new = record old {
 
 -- the old ledger with what a recording may change, once the firmware was read
 abbrev pub only_recording : Ledger → Ledger → Ledger
-only_recording old new = only_shared (only LogOut (only ConsoleOut old new) new) new
+only_recording old new =
+    only_shared (only LogOut (only ConsoleOut (only ConsoleIn old new) new) new) new
 
 -- the old ledger with what a run may change
 abbrev pub only_run : Ledger → Ledger → Ledger
@@ -57,6 +58,7 @@ pub record NoDisk (old new : Ledger) : Type 0 where
 pub record CountsStood (old new : Ledger) : Type 0 where
   pub opening : Stood old.opening_faults new.opening_faults
   pub firmware : Stood (at old.faults Firmware) (at new.faults Firmware)
+  pub input : Stood (at old.faults ConsoleIn) (at new.faults ConsoleIn)
   pub console : Stood (at old.faults ConsoleOut) (at new.faults ConsoleOut)
   pub log : Stood (at old.faults LogOut) (at new.faults LogOut)
   pub replayed_log : Stood (at old.faults LogIn) (at new.faults LogIn)
@@ -65,6 +67,7 @@ pub record CountsStood (old new : Ledger) : Type 0 where
 pub record CountsKept (old new : Ledger) : Type 0 where
   pub opening : new.opening_faults ≡ old.opening_faults
   pub firmware : at new.faults Firmware ≡ at old.faults Firmware
+  pub input : at new.faults ConsoleIn ≡ at old.faults ConsoleIn
   pub console : at new.faults ConsoleOut ≡ at old.faults ConsoleOut
   pub log : at new.faults LogOut ≡ at old.faults LogOut
   pub replayed_log : at new.faults LogIn ≡ at old.faults LogIn

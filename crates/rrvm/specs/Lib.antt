@@ -2,6 +2,9 @@ pub mod Ledgers
 pub mod Outcomes
 pub mod Firmwares
 pub mod Endings
+pub mod Guests
+pub mod Headers
+pub mod Demos
 pub mod Recordings
 pub mod Asking
 pub mod Texts

@@ -10,7 +10,7 @@ use Rattle.rrvm.specs.declared.difference.Difference.{Difference}
 use Rattle.rrvm.specs.declared.difference.Difference.TheVariants as difference
 use Rattle.rrvm.specs.Texts.{refusal_line}
 use Rattle.rrvm.specs.declared.outcome.Outcome.{Outcome}
-use Rattle.rrvm.specs.declared.outcome.Outcome.TheVariants.{Printed, GuestEnded, IdleForEver, BudgetReached, BadWord, WordsMissing, CannotOpen, CannotRead, ConsoleFailed, LogFailed, LogUnreadable, BadFirmware, RecordingStopped, HeaderRefused, LogRefused, ImagesDiffer, LogTooLong, NoMemory}
+use Rattle.rrvm.specs.declared.outcome.Outcome.TheVariants.{Printed, GuestEnded, IdleForEver, BudgetReached, BadWord, WordsMissing, CannotOpen, CannotRead, ConsoleUnreadable, ConsoleFailed, LogFailed, LogUnreadable, BadFirmware, RecordingStopped, HeaderRefused, LogRefused, ImagesDiffer, LogTooLong, QuietFailed, NoMemory}
 
 -- the names that the words give
 abbrev pub bios_name : Reading → List ℕ
@@ -68,6 +68,7 @@ line_of words r WordsMissing = codes "rrvm: words end early\n"
 line_of words r (CannotOpen role) =
     codes "rrvm: cannot open or read " ++ file_name r role ++ codes "\n"
 line_of words r CannotRead = codes "rrvm: cannot open or read " ++ bios_name r ++ codes "\n"
+line_of words r ConsoleUnreadable = codes "rrvm: console input failed\n"
 line_of words r ConsoleFailed = codes "rrvm: console output failed\n"
 line_of words r LogFailed = codes "rrvm: log output failed\n"
 line_of words r (BadFirmware broken) =
@@ -80,4 +81,5 @@ line_of words r (LogRefused refusal) = refusal_line refusal
 line_of words r (ImagesDiffer which) =
     codes "rrvm: images differ: " ++ difference_name which ++ codes "\n"
 line_of words r LogTooLong = codes "rrvm: log too long\n"
+line_of words r QuietFailed = codes "rrvm: input or output failed\n"
 line_of words r NoMemory = codes "rrvm: no memory\n"

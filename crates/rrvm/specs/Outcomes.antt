@@ -1,7 +1,7 @@
 -- The status of an outcome.
 use Rattle.std.specs.Prelude.{ℕ, ◌==◌, if◌then◌else◌}
 use Rattle.rrvm.specs.declared.outcome.Outcome.{Outcome}
-use Rattle.rrvm.specs.declared.outcome.Outcome.TheVariants.{Printed, GuestEnded, IdleForEver, BudgetReached, BadWord, WordsMissing, CannotOpen, CannotRead, ConsoleFailed, LogFailed, LogUnreadable, BadFirmware, RecordingStopped, HeaderRefused, LogRefused, ImagesDiffer, LogTooLong, NoMemory}
+use Rattle.rrvm.specs.declared.outcome.Outcome.TheVariants.{Printed, GuestEnded, IdleForEver, BudgetReached, BadWord, WordsMissing, CannotOpen, CannotRead, ConsoleUnreadable, ConsoleFailed, LogFailed, LogUnreadable, BadFirmware, RecordingStopped, HeaderRefused, LogRefused, ImagesDiffer, LogTooLong, QuietFailed, NoMemory}
 
 abbrev pub status_of : Outcome → ℕ
 status_of Printed = 0
@@ -12,10 +12,12 @@ status_of (BadWord number) = 1
 status_of WordsMissing = 1
 status_of (CannotOpen role) = 2
 status_of CannotRead = 2
+status_of ConsoleUnreadable = 3
 status_of ConsoleFailed = 4
 status_of LogFailed = 5
 status_of LogUnreadable = 6
 status_of (BadFirmware rule) = 8
+status_of QuietFailed = 9
 status_of RecordingStopped = 14
 status_of (HeaderRefused offset) = 20
 status_of (LogRefused refusal) = 20

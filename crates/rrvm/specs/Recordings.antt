@@ -1,6 +1,6 @@
 -- What the words ask to record, and what a recording of it writes.
 use Rattle.std.specs.Prelude.{◌≡◌, ◌≤◌, ℕ, List, [], length, Some, IfSome, Ok}
-use Rattle.sha2.specs.Sha256.{sha256}
+use Rattle.std.specs.declared.option.Option.{Option}
 use Rattle.outside.specs.Ledger.{Ledger}
 use Rattle.outside.specs.Roles.{at}
 use Rattle.outside.specs.declared.roles.Role.TheVariants.{ConsoleOut, LogOut}
@@ -9,49 +9,63 @@ use Rattle.elf_load.specs.declared.pieces.Loaded.{Loaded}
 use Rattle.elf_load.specs.Load.{loaded}
 use Rattle.event_log.specs.declared.header.Header.{Header}
 use Rattle.event_log.specs.HeaderFormat.{header_text}
+use Rattle.rr_engine.specs.Stand.{Devices}
+use Rattle.rr_engine.specs.Runs.{start_of, Whole, Front, IsLogOf}
 use Rattle.rrvm.specs.declared.firmware.TheConstants.{FIRMWARE_LIMIT}
-use Rattle.rr_engine.specs.Runs.{start_of, RecordedWhole, RecordedFront, IsLogOf}
+use Rattle.rrvm.specs.Headers.{header_of}
 
--- The header of a recording: what the words say, and the digests of the firmware's file and of a
--- disk without bytes [FIPS 180-4, SHA-256].
-abbrev pub header_of : Recording → List ℕ → Header
-header_of r file = record {
-  shift = r.shift;
-  ram_mib = r.ram_mib;
-  slice = r.slice;
-  budget = r.budget;
-  firmware = sha256 file;
-  disk_len = 0;
-  disk = sha256 [];
+-- the devices of a recording when they are opened: the console's input is what standard input holds
+abbrev pub opened_with : Ledger → Devices
+opened_with l = record {
+  log = Some [];
+  log_faults = 0;
+  console = Some [];
+  console_faults = 0;
+  input = l.input;
+  input_faults = 0;
+  gave = Some [];
+}
+
+-- the same when they were given back, where the console's input had this left
+abbrev pub returned : Ledger → Option (List ℕ) → Devices
+returned l left = record {
+  log = at l.last LogOut;
+  log_faults = 0;
+  console = at l.last ConsoleOut;
+  console_faults = 0;
+  input = left;
+  input_faults = 0;
+  gave = l.clock;
 }
 
 -- The log has the header and events of the machine from its start on, the last of which is END; the
--- console has the machine's bytes, and the clock gave the values.
-abbrev pub HasWhole : Header → Loaded → Ledger → ℕ → ℕ → Type 0
-HasWhole h firmware l reason code =
-    RecordedWhole (start_of h firmware) (header_text h) (Some []) (at l.last LogOut)
-    (Some []) (at l.last ConsoleOut) (Some []) l.clock reason code
+-- console has the machine's bytes, and its input and the clock gave what the events have.
+abbrev pub HasWhole : Header → Loaded → Ledger → Ledger → ℕ → ℕ → Type 0
+HasWhole h firmware old new reason code =
+    (left : Option (List ℕ)) × Whole (start_of h firmware) (header_text h) (opened_with old)
+    (returned new left) reason code
 
 -- the same, broken off: the log has a front of that, and the console too
-abbrev pub HasFront : Header → Loaded → Ledger → Type 0
-HasFront h firmware l =
-    RecordedFront (start_of h firmware) (header_text h) (Some []) (at l.last LogOut)
-    (Some []) (at l.last ConsoleOut) (Some []) l.clock
+abbrev pub HasFront : Header → Loaded → Ledger → Ledger → Type 0
+HasFront h firmware old new =
+    (left : Option (List ℕ)) × Front (start_of h firmware) (header_text h) (opened_with old)
+    (returned new left)
 
 -- the log of the words' recording of a file is whole
-pub record IsRecorded (r : Recording) (file : List ℕ) (l : Ledger) (reason code : ℕ) : Type 0 where
+pub record IsRecorded (r : Recording) (file : List ℕ) (old new : Ledger) (reason code : ℕ)
+    : Type 0 where
   pub firmware : Loaded
   pub loads : loaded file r.ram_mib ≡ Ok firmware
   pub fits : length file ≤ FIRMWARE_LIMIT
-  pub whole : HasWhole (header_of r file) firmware l reason code
+  pub whole : HasWhole (header_of r file) firmware old new reason code
 
 -- the log that was taken is one of the words' recording of a file, whole or broken off
-pub record IsLogged (r : Recording) (file : List ℕ) (l : Ledger) : Type 0 where
+pub record IsLogged (r : Recording) (file : List ℕ) (old new : Ledger) : Type 0 where
   pub firmware : Loaded
   pub loads : loaded file r.ram_mib ≡ Ok firmware
-  pub log : IfSome (at l.last LogOut) (λ bytes.
+  pub log : IfSome (at new.last LogOut) (λ bytes.
       IsLogOf (start_of (header_of r file) firmware) (header_text (header_of r file)) bytes
-      (at l.last ConsoleOut) l.clock)
+      (at new.last ConsoleOut) old.input new.clock)
 
 -- the file loads as some firmware, and isn't above the limit
 pub record IsGood (r : Recording) (file : List ℕ) : Type 0 where

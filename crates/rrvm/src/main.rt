@@ -4,12 +4,17 @@
 //! the host.
 #![tactic(auto)]
 
+mod demo;
+mod demo_clock;
+mod demo_text;
 mod difference;
 mod firmware;
+mod guests;
 mod images;
 mod message;
 mod outcome;
 mod printing;
+mod quiet;
 mod read_all;
 mod recording;
 mod replaying;

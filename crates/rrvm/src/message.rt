@@ -123,6 +123,7 @@ pub(crate) fn message(
             let name = bios(line);
             format!(in alloc; "rrvm: cannot open or read {name}\n")
         }
+        Outcome::ConsoleUnreadable => plain(alloc, "rrvm: console input failed\n"),
         Outcome::ConsoleFailed => plain(alloc, "rrvm: console output failed\n"),
         Outcome::LogFailed => plain(alloc, "rrvm: log output failed\n"),
         Outcome::LogUnreadable => plain(alloc, "rrvm: log input failed\n"),
@@ -140,6 +141,7 @@ pub(crate) fn message(
             format!(in alloc; "rrvm: images differ: {name}\n")
         }
         Outcome::LogTooLong => plain(alloc, "rrvm: log too long\n"),
+        Outcome::QuietFailed => plain(alloc, "rrvm: input or output failed\n"),
         Outcome::NoMemory => plain(alloc, "rrvm: no memory\n"),
     }
 }

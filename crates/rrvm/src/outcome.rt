@@ -23,6 +23,8 @@ pub enum Outcome {
     CannotOpen(Role),
     /// The firmware's file couldn't be read.
     CannotRead,
+    /// The console's input couldn't be read.
+    ConsoleUnreadable,
     ConsoleFailed,
     LogFailed,
     /// The log couldn't be read.
@@ -39,6 +41,8 @@ pub enum Outcome {
     ImagesDiffer(Difference),
     /// The log has more than 2^40 bytes.
     LogTooLong,
+    /// What a quiet command printed wasn't taken whole.
+    QuietFailed,
     NoMemory,
 }
 
@@ -57,6 +61,7 @@ impl Outcome {
             Outcome::BudgetReached => 13,
             Outcome::BadWord(_) | Outcome::WordsMissing => 1,
             Outcome::CannotOpen(_) | Outcome::CannotRead => 2,
+            Outcome::ConsoleUnreadable => 3,
             Outcome::ConsoleFailed => 4,
             Outcome::LogFailed => 5,
             Outcome::LogUnreadable => 6,
@@ -65,6 +70,7 @@ impl Outcome {
             Outcome::HeaderRefused(_) | Outcome::LogRefused(_) => 20,
             Outcome::ImagesDiffer(_) => 21,
             Outcome::LogTooLong => 22,
+            Outcome::QuietFailed => 9,
             Outcome::NoMemory => 30,
         }
     }

@@ -20,6 +20,7 @@ log that a one-thread machine accepts event by event, and replays it.
 usage: rrvm -icount shift=N,rr=record,rrfile=LOG -bios FILE
             [-m MIB] [-budget T] [-slice S]
        rrvm -icount rr=replay,rrfile=LOG[,shift=N] -bios FILE [-m MIB]
+       rrvm demo N
        rrvm --help | --version
 
   -icount   shift=N     one turn costs 2^N nanoseconds of the guest, 0 to 10
@@ -31,18 +32,19 @@ usage: rrvm -icount shift=N,rr=record,rrfile=LOG -bios FILE
   -budget   the most turns, 1 to 2^40 (1000000000)
   -slice    turns between two checkpoints, 1 to 65536 (10000)
 
-The console is standard output, messages go to standard error. The guest ends
-its run by a write of 0x5555 to 0x100000, or of CODE * 65536 + 0x3333.
+The console is standard input and output, messages go to standard error. The
+guest ends its run by a write of 0x5555, or CODE * 65536 + 0x3333, to 0x100000.
 
 status
    0  the guest ended with code 0        10  the guest ended with another code
    1  bad words                          12  idle for ever
    2  a file can't be opened or read     13  budget reached
-   4  console output failed              14  the recording was stopped
-   5  log output failed                  20  the log is refused
-   6  log input failed                   21  the images aren't those of the log
-   8  bad firmware                       22  the log is too long
-                                         30  no memory
+   3  console input failed               14  the recording was stopped
+   4  console output failed              20  the log is refused
+   5  log output failed                  21  the images aren't those of the log
+   6  log input failed                   22  the log is too long
+   8  bad firmware                       30  no memory
+   9  a quiet command's output failed
 
 example: rrvm -icount shift=0,rr=record,rrfile=a.log -bios letter.bin
          rrvm -icount rr=replay,rrfile=a.log -bios letter.bin

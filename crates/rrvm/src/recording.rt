@@ -2,14 +2,14 @@
 
 ghost use Rattle.std.specs.Prelude.{◌≡◌, ◌<◌, ◌≤◌, ℕ, Some, [], IfOk, IfErr, OnOk, OnErr};
 ghost use Rattle.outside.specs.Causes.{Rose};
-ghost use Rattle.outside.specs.Ledger.{opens, opens_clock, StartsEmpty, sink_back, clock_back};
+ghost use Rattle.outside.specs.Ledger.{opens, opens_clock};
 ghost use Rattle.outside.specs.Roles.{at};
-ghost use Rattle.outside.specs.declared.roles.Role.TheVariants.{ConsoleOut, LogOut};
+ghost use Rattle.outside.specs.declared.roles.Role.TheVariants.{ConsoleIn, ConsoleOut, LogOut};
 ghost use Rattle.event_log.specs.HeaderFormat.{IsHeader, header_text};
 ghost use Rattle.elf_load.specs.Load.{LiesInRam};
 ghost use Rattle.rrvm.specs.Ledgers.{only_recording, Balanced, ClocksBalanced};
 ghost use Rattle.rrvm.specs.Recordings.{HasFront, HasWhole};
-ghost use Rattle.rrvm.specs.Endings.{IfEnds, IsFresh, OpensNothing, RecordingKept, recording_end_of};
+ghost use Rattle.rrvm.specs.Endings.{IfEnds, IsFresh, OpensNothing, RecordingKept, closed, recording_end_of};
 
 use board::Steps;
 use elf_load::Loaded;
@@ -25,16 +25,20 @@ pub(crate) enum RecordingEnd {
     /// By the END event of this reason and code.
     End { reason: u8, code: u32 },
     CannotOpenLog,
+    ConsoleUnreadable,
     ConsoleFailed,
     LogFailed,
     NoMemory,
 }
 
-/// Opens the console, the clock and the log, the log last.
-fn open<W: World>(log: &str, world: &mut W) -> Result<RecordParts<W::Sink, W::Clock>, RecordingEnd>
+/// Opens the console, its input first, the clock and the log.
+fn open<W: World>(
+    log: &str,
+    world: &mut W,
+) -> Result<RecordParts<W::Source, W::Sink, W::Clock>, RecordingEnd>
     ensures opened { OnOk result (W.ledger world.new
-        ≡ opens (opens_clock (opens (W.ledger world.old) ConsoleOut)) LogOut) }
-    ensures fresh { IfOk result IsFresh }
+        ≡ opens (opens_clock (opens (opens (W.ledger world.old) ConsoleIn) ConsoleOut)) LogOut) }
+    ensures fresh { IfOk result (IsFresh (W.ledger world.old)) }
 
     ensures fault { IfErr result OpensNothing }
     ensures unopened { result ≡ Err RecordingEnd.CannotOpenLog
@@ -43,6 +47,8 @@ fn open<W: World>(log: &str, world: &mut W) -> Result<RecordParts<W::Sink, W::Cl
         ≡ at (W.ledger world.old).opened LogOut) }
     ensures balanced_log { OnErr result
         (Balanced LogOut (W.ledger world.old) (W.ledger world.new)) }
+    ensures balanced_input { OnErr result
+        (Balanced ConsoleIn (W.ledger world.old) (W.ledger world.new)) }
     ensures balanced_console { OnErr result
         (Balanced ConsoleOut (W.ledger world.old) (W.ledger world.new)) }
     ensures balanced_clock { OnErr result
@@ -50,18 +56,27 @@ fn open<W: World>(log: &str, world: &mut W) -> Result<RecordParts<W::Sink, W::Cl
     ensures rest { OnErr result (W.ledger world.new
         ≡ only_recording (W.ledger world.old) (W.ledger world.new)) }
 {
+    let console = match world.source(Role::ConsoleIn, None) {
+        Ok(source) => source,
+        Err(_) => return Err(RecordingEnd::NoMemory),
+    };
     let out = match world.sink(Role::ConsoleOut, None) {
         Ok(sink) => Careful::new(sink),
-        Err(_) => return Err(RecordingEnd::NoMemory),
+        Err(_) => {
+            world.take_source(Role::ConsoleIn, console);
+            return Err(RecordingEnd::NoMemory);
+        }
     };
     let clock = world.clock();
     match world.sink(Role::LogOut, Some(log)) {
         Ok(sink) => Ok(RecordParts {
+            console,
             out,
             log: Careful::new(sink),
             clock,
         }),
         Err(error) => {
+            world.take_source(Role::ConsoleIn, console);
             world.take_sink(Role::ConsoleOut, out.into_inner());
             world.take_clock(clock);
             Err(open_fault(error))
@@ -81,19 +96,22 @@ fn open_fault(error: OpenError) -> RecordingEnd
 }
 
 /// Gives the devices back.
-fn close<W: World>(parts: RecordParts<W::Sink, W::Clock>, world: &mut W)
-    ensures { W.ledger world.new ≡ clock_back
-        (sink_back (sink_back (W.ledger world.old) LogOut parts.log_faults parts.log)
-        ConsoleOut parts.console_faults parts.console) parts.gave }
+fn close<W: World>(parts: RecordParts<W::Source, W::Sink, W::Clock>, world: &mut W)
+    ensures { W.ledger world.new ≡ closed (W.ledger world.old) parts }
 {
-    let RecordParts { out, log, clock } = parts;
+    let RecordParts {
+        console,
+        out,
+        log,
+        clock,
+    } = parts;
+    world.take_source(Role::ConsoleIn, console);
     world.take_sink(Role::LogOut, log.into_inner());
     world.take_sink(Role::ConsoleOut, out.into_inner());
     world.take_clock(clock);
 }
 
 /// Records the run of a firmware into a log of this name.
-#[tactic(auto, using(crate::proofs::Fresh::fresh))]
 pub(crate) fn record<W: World, L: Ledger>(
     alloc: Global,
     header: &Header,
@@ -105,13 +123,16 @@ pub(crate) fn record<W: World, L: Ledger>(
     requires header { IsHeader header.now }
     requires firmware { LiesInRam header.now.ram_mib firmware.now }
     ensures whole { IfEnds result (λ reason code.
-        HasWhole header.now firmware.now (W.ledger world.new) reason code) }
+        HasWhole header.now firmware.now (W.ledger world.old) (W.ledger world.new) reason code) }
     ensures kept { IfEnds result (λ _ _. RecordingKept (W.ledger world.old) (W.ledger world.new)) }
     ensures front { at (W.ledger world.old).opened LogOut < at (W.ledger world.new).opened LogOut
-        → HasFront header.now firmware.now (W.ledger world.new) }
+        → HasFront header.now firmware.now (W.ledger world.old) (W.ledger world.new) }
 
     ensures unopened { result ≡ RecordingEnd.CannotOpenLog
         → Rose (W.ledger world.old).opening_faults (W.ledger world.new).opening_faults }
+    ensures input_fault { result ≡ RecordingEnd.ConsoleUnreadable
+        → Rose (at (W.ledger world.old).faults ConsoleIn)
+        (at (W.ledger world.new).faults ConsoleIn) }
     ensures console_fault { result ≡ RecordingEnd.ConsoleFailed
         → Rose (at (W.ledger world.old).faults ConsoleOut)
         (at (W.ledger world.new).faults ConsoleOut) }
@@ -119,6 +140,7 @@ pub(crate) fn record<W: World, L: Ledger>(
         → Rose (at (W.ledger world.old).faults LogOut) (at (W.ledger world.new).faults LogOut) }
 
     ensures balanced_log { Balanced LogOut (W.ledger world.old) (W.ledger world.new) }
+    ensures balanced_input { Balanced ConsoleIn (W.ledger world.old) (W.ledger world.new) }
     ensures balanced_console { Balanced ConsoleOut (W.ledger world.old) (W.ledger world.new) }
     ensures balanced_clock { ClocksBalanced (W.ledger world.old) (W.ledger world.new) }
     ensures rest { W.ledger world.new
@@ -139,6 +161,7 @@ fn recording_end(end: RunEnd) -> RecordingEnd
 {
     match end {
         RunEnd::End { reason, code } => RecordingEnd::End { reason, code },
+        RunEnd::ConsoleRead => RecordingEnd::ConsoleUnreadable,
         RunEnd::ConsoleWrite => RecordingEnd::ConsoleFailed,
         RunEnd::LogWrite => RecordingEnd::LogFailed,
         RunEnd::NoMemory => RecordingEnd::NoMemory,

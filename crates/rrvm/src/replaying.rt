@@ -3,7 +3,7 @@
 ghost use Rattle.std.specs.Prelude.{◌≡◌, ◌<◌, false};
 ghost use Rattle.outside.specs.Causes.{Rose};
 ghost use Rattle.outside.specs.Roles.{at};
-ghost use Rattle.outside.specs.declared.roles.Role.TheVariants.{ConsoleOut, LogIn, LogOut, Firmware as FirmwareRole};
+ghost use Rattle.outside.specs.declared.roles.Role.TheVariants.{ConsoleIn, ConsoleOut, LogIn, LogOut, Firmware as FirmwareRole};
 ghost use Rattle.command_line.specs.Words.{Replays, IsReplayInRange};
 ghost use Rattle.elf_load.specs.Load.{LiesInRam};
 ghost use Rattle.event_log.specs.HeaderFormat.{IsHeader};
@@ -167,6 +167,7 @@ pub(crate) fn replay<W: World, L: Ledger>(
         (λ bytes file. IsShown (replay_asked words.now) bytes file (W.ledger world.new)) }
     ensures kept { IfRan result (CountsKept (W.ledger world.old) (W.ledger world.new)) }
     ensures balanced_firmware { Balanced FirmwareRole (W.ledger world.old) (W.ledger world.new) }
+    ensures balanced_input { Balanced ConsoleIn (W.ledger world.old) (W.ledger world.new) }
     ensures balanced_console { Balanced ConsoleOut (W.ledger world.old) (W.ledger world.new) }
     ensures balanced_log { Balanced LogOut (W.ledger world.old) (W.ledger world.new) }
     ensures balanced_replayed { Balanced LogIn (W.ledger world.old) (W.ledger world.new) }

@@ -2,7 +2,7 @@
 
 ghost use Rattle.std.specs.Prelude.{◌≡◌, ◌<◌, ◌+◌, ◌^◌};
 ghost use Rattle.outside.specs.Roles.{at};
-ghost use Rattle.outside.specs.declared.roles.Role.TheVariants.{ConsoleOut, LogIn, LogOut, Firmware as FirmwareRole};
+ghost use Rattle.outside.specs.declared.roles.Role.TheVariants.{ConsoleIn, ConsoleOut, LogIn, LogOut, Firmware as FirmwareRole};
 ghost use Rattle.command_line.specs.Words.{Records, IsInRange};
 ghost use Rattle.event_log.specs.HeaderFormat.{IsHeader};
 ghost use Rattle.rrvm.specs.Ledgers.{only_run, Balanced, ClocksBalanced, CountsKept};
@@ -56,6 +56,7 @@ fn ending_outcome(end: RecordingEnd) -> Outcome
         RecordingEnd::End { reason: 1, .. } => Outcome::IdleForEver,
         RecordingEnd::End { .. } => Outcome::BudgetReached,
         RecordingEnd::CannotOpenLog => Outcome::CannotOpen(Role::LogOut),
+        RecordingEnd::ConsoleUnreadable => Outcome::ConsoleUnreadable,
         RecordingEnd::ConsoleFailed => Outcome::ConsoleFailed,
         RecordingEnd::LogFailed => Outcome::LogFailed,
         RecordingEnd::NoMemory => Outcome::NoMemory,
@@ -74,9 +75,10 @@ pub(crate) fn run<W: World, L: Ledger>(
         (W.ledger world.old) (W.ledger world.new) result }
     ensures log { at (W.ledger world.old).opened LogOut < at (W.ledger world.new).opened LogOut
         → IfRecords (Records (asked words.now)) (W.ledger world.old)
-        (λ r file. IsLogged r file (W.ledger world.new)) }
+        (λ r file. IsLogged r file (W.ledger world.old) (W.ledger world.new)) }
     ensures kept { IfRan result (CountsKept (W.ledger world.old) (W.ledger world.new)) }
     ensures balanced_firmware { Balanced FirmwareRole (W.ledger world.old) (W.ledger world.new) }
+    ensures balanced_input { Balanced ConsoleIn (W.ledger world.old) (W.ledger world.new) }
     ensures balanced_console { Balanced ConsoleOut (W.ledger world.old) (W.ledger world.new) }
     ensures balanced_log { Balanced LogOut (W.ledger world.old) (W.ledger world.new) }
     ensures balanced_replayed { Balanced LogIn (W.ledger world.old) (W.ledger world.new) }

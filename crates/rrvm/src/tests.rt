@@ -1,7 +1,10 @@
 //! Recordings over a world in memory: whole runs by their logs, and each cause in its place.
 
+mod demos;
 mod firmwares;
+mod inputs;
 mod replays;
+mod streams;
 
 use crate::top::{Status, rrvm_main};
 use outside::{MemWorld, Role};

@@ -5,9 +5,9 @@ ghost use Rattle.outside.specs.Causes.{Rose, Stood};
 ghost use Rattle.outside.specs.Told.{Takes, TakesFront};
 ghost use Rattle.outside.specs.Roles.{at};
 ghost use Rattle.outside.specs.declared.roles.Role.{Role as ARole};
-ghost use Rattle.outside.specs.declared.roles.Role.TheVariants.{ConsoleOut, LogIn, LogOut, Messages, Firmware as FirmwareRole};
+ghost use Rattle.outside.specs.declared.roles.Role.TheVariants.{ConsoleIn, ConsoleOut, LogIn, LogOut, Messages, Firmware as FirmwareRole};
 ghost use Rattle.command_line.specs.Words.{Recording, Replaying, Records, Replays, IsBadLine, IsLineInRange};
-ghost use Rattle.command_line.specs.Line.{seen_line, line_in};
+ghost use Rattle.command_line.specs.Line.{seen_line, line_in, quiet_in};
 ghost use Rattle.elf_load.specs.declared.error.LoadError.{LoadError};
 ghost use Rattle.elf_load.specs.declared.error.LoadError.TheVariants as load_error;
 ghost use Rattle.rrvm.specs.Ledgers.{only, only_run, Balanced, ClocksBalanced, NoDisk, CountsKept, CountsStood};
@@ -15,15 +15,16 @@ ghost use Rattle.rrvm.specs.Messages.{line_of};
 ghost use Rattle.rrvm.specs.Firmwares.{IsBadFirmware};
 ghost use Rattle.rrvm.specs.Recordings.{IsGood, IsLogged};
 ghost use Rattle.rrvm.specs.Replays.{IsShown, IsReplayable, IsRefusable};
-ghost use Rattle.rrvm.specs.Answers.{Cause, Explained, IfRecords, IfReplays, IfRan, IsEnded, IsPrinted, IsWordFault, HasRun, ending_status};
+ghost use Rattle.rrvm.specs.Answers.{Cause, Explained, IfRecords, IfReplays, IfDemonstrates, IfRan, IsEnded, IsPrinted, IsPrintedFront, IsWordFault, HasRun, ending_status};
 
 use crate::message::message;
 use crate::outcome::Outcome;
 use crate::printing::{HELP, PrintFault, VERSION, print};
+use crate::quiet::demonstrate;
 use crate::replaying::replay;
 use crate::run::run;
 use board::Steps;
-use command_line::{Line, read_line};
+use command_line::{Line, read_line, read_quiet};
 use outside::{Careful, Role, World};
 use std::alloc::{AllocError, Global};
 use std::marker::Brand;
@@ -117,14 +118,18 @@ fn answer<W: World, L: Ledger>(
     ensures cause { Cause (seen_line line.now) (W.ledger world.old) (W.ledger world.new) result }
     ensures log { at (W.ledger world.old).opened LogOut < at (W.ledger world.new).opened LogOut
         → IfRecords (seen_line line.now) (W.ledger world.old)
-        (λ r file. IsLogged r file (W.ledger world.new)) }
+        (λ r file. IsLogged r file (W.ledger world.old) (W.ledger world.new)) }
     ensures shown { at (W.ledger world.old).opened ConsoleOut
         < at (W.ledger world.new).opened ConsoleOut
         → IfReplays (seen_line line.now) (W.ledger world.old)
         (λ r bytes file. IsShown r bytes file (W.ledger world.new)) }
+    ensures demonstrated { at (W.ledger world.old).opened ConsoleOut
+        < at (W.ledger world.new).opened ConsoleOut
+        → IfDemonstrates (seen_line line.now) (λ n. IsPrintedFront n (W.ledger world.new)) }
     ensures bad { IsBadLine (seen_line line.now) → IsWordFault result }
     ensures kept { IfRan result (CountsKept (W.ledger world.old) (W.ledger world.new)) }
     ensures balanced_firmware { Balanced FirmwareRole (W.ledger world.old) (W.ledger world.new) }
+    ensures balanced_input { Balanced ConsoleIn (W.ledger world.old) (W.ledger world.new) }
     ensures balanced_console { Balanced ConsoleOut (W.ledger world.old) (W.ledger world.new) }
     ensures balanced_log { Balanced LogOut (W.ledger world.old) (W.ledger world.new) }
     ensures balanced_replayed { Balanced LogIn (W.ledger world.old) (W.ledger world.new) }
@@ -134,6 +139,7 @@ fn answer<W: World, L: Ledger>(
     match line {
         Line::Record(words) => run(alloc, words, world, steps),
         Line::Replay(words) => replay(alloc, words, world, steps),
+        Line::Demo(n) => demonstrate(alloc, *n, world, steps),
         Line::Help => print_alone(HELP, world),
         Line::Version => print_alone(VERSION, world),
         Line::BadWord(number) => Outcome::BadWord(*number),
@@ -155,14 +161,18 @@ fn answer_uncounted<W: World, L: Ledger>(
     ensures cause { Cause (seen_line line.now) (W.ledger world.old) (W.ledger world.new) result }
     ensures log { at (W.ledger world.old).opened LogOut < at (W.ledger world.new).opened LogOut
         → IfRecords (seen_line line.now) (W.ledger world.old)
-        (λ r file. IsLogged r file (W.ledger world.new)) }
+        (λ r file. IsLogged r file (W.ledger world.old) (W.ledger world.new)) }
     ensures shown { at (W.ledger world.old).opened ConsoleOut
         < at (W.ledger world.new).opened ConsoleOut
         → IfReplays (seen_line line.now) (W.ledger world.old)
         (λ r bytes file. IsShown r bytes file (W.ledger world.new)) }
+    ensures demonstrated { at (W.ledger world.old).opened ConsoleOut
+        < at (W.ledger world.new).opened ConsoleOut
+        → IfDemonstrates (seen_line line.now) (λ n. IsPrintedFront n (W.ledger world.new)) }
     ensures bad { IsBadLine (seen_line line.now) → IsWordFault result }
     ensures kept { IfRan result (CountsKept (W.ledger world.old) (W.ledger world.new)) }
     ensures balanced_firmware { Balanced FirmwareRole (W.ledger world.old) (W.ledger world.new) }
+    ensures balanced_input { Balanced ConsoleIn (W.ledger world.old) (W.ledger world.new) }
     ensures balanced_console { Balanced ConsoleOut (W.ledger world.old) (W.ledger world.new) }
     ensures balanced_log { Balanced LogOut (W.ledger world.old) (W.ledger world.new) }
     ensures balanced_replayed { Balanced LogIn (W.ledger world.old) (W.ledger world.new) }
@@ -176,8 +186,9 @@ fn answer_uncounted<W: World, L: Ledger>(
 /// Does what the words ask for, over a world, and says on its messages how it ended.
 ///
 /// The words are those after the program's name. A recording opens the firmware's file, the
-/// console, the clock and the log, in this order; a replay the log, the firmware's file and the
-/// console. Each device is given back. Of several causes the one that is met first decides.
+/// console's input, the console, the clock and the log, in this order; a replay the log, the
+/// firmware's file and the console. Each device is given back. Of several causes the one that is
+/// met first decides.
 pub fn rrvm_main<R: Threads + Wait + Sync + AllocGlobal, W: World>(
     rt: &R,
     words: &[String],
@@ -189,9 +200,10 @@ pub fn rrvm_main<R: Threads + Wait + Sync + AllocGlobal, W: World>(
 
     // The log that a recording wrote, where the firmware's file tells its bytes: a front of the
     // header; or the header, events that the one-thread machine accepts, and a part of one event.
+    // What standard input held and what the clock gave begins with what these events have.
     ensures log { at (W.ledger world.old).opened LogOut < at (W.ledger world.new).opened LogOut
         → IfRecords (line_in words.now) (W.ledger world.old)
-        (λ r file. IsLogged r file (W.ledger world.new)) }
+        (λ r file. IsLogged r file (W.ledger world.old) (W.ledger world.new)) }
 
     // What the console of a replay took, where log and firmware tell their bytes: a front of the
     // bytes of a part of the log that the one-thread machine accepts.
@@ -199,6 +211,11 @@ pub fn rrvm_main<R: Threads + Wait + Sync + AllocGlobal, W: World>(
         < at (W.ledger world.new).opened ConsoleOut
         → IfReplays (line_in words.now) (W.ledger world.old)
         (λ r bytes file. IsShown r bytes file (W.ledger world.new)) }
+
+    // What a demonstration printed: its line, or a front of it.
+    ensures demonstrated { at (W.ledger world.old).opened ConsoleOut
+        < at (W.ledger world.new).opened ConsoleOut
+        → IfDemonstrates (line_in words.now) (λ n. IsPrintedFront n (W.ledger world.new)) }
 
     // Each status where it comes.
     ensures bad_words { result.code ≡ 1 → IsBadLine (line_in words.now) }
@@ -208,6 +225,9 @@ pub fn rrvm_main<R: Threads + Wait + Sync + AllocGlobal, W: World>(
         → Rose (W.ledger world.old).opening_faults (W.ledger world.new).opening_faults
         ⊎ Rose (at (W.ledger world.old).faults FirmwareRole)
         (at (W.ledger world.new).faults FirmwareRole) }
+    ensures input_fault { result.code ≡ 3
+        → Rose (at (W.ledger world.old).faults ConsoleIn)
+        (at (W.ledger world.new).faults ConsoleIn) }
     ensures console_fault { result.code ≡ 4
         → Rose (at (W.ledger world.old).faults ConsoleOut)
         (at (W.ledger world.new).faults ConsoleOut) }
@@ -221,6 +241,9 @@ pub fn rrvm_main<R: Threads + Wait + Sync + AllocGlobal, W: World>(
         → line_in words.now ≡ Records r → (W.ledger world.old).names r.bios ≡ Some file
         → rule ≢ load_error.NoMemory → IsBadFirmware file r.ram_mib rule
         → (result.code ≡ 8) ⊎ ((result.code ≡ 2) ⊎ (result.code ≡ 30)) }
+    ensures quiet_fault { result.code ≡ 9
+        → Rose (at (W.ledger world.old).faults ConsoleOut)
+        (at (W.ledger world.new).faults ConsoleOut) }
     ensures idle { result.code ≡ 12
         → IsEnded (line_in words.now) (W.ledger world.old) (W.ledger world.new) 1 0 }
     ensures budget { result.code ≡ 13
@@ -263,6 +286,42 @@ pub fn rrvm_main<R: Threads + Wait + Sync + AllocGlobal, W: World>(
 {
     let alloc = rt.alloc();
     let line = read_line(words);
+    let outcome = answer_uncounted::<W, Brand>(alloc, Blank::new(1), &line, world);
+    let told = tell(alloc, words, &line, outcome, world);
+    Status {
+        code: told.status(),
+    }
+}
+
+/// Does what the words of a quiet command ask for, which needs no threads and always returns.
+///
+/// The words are those after the program's name, of which the first is `demo`: another is bad. A
+/// demonstration prints its line to standard output.
+pub fn rrvm_quiet<W: World>(alloc: Global, words: &[String], world: &mut W) -> Status
+    // The status, its cause, and the line on the messages.
+    ensures explained { Explained (map string_bytes words.now) (quiet_in words.now)
+        (W.ledger world.old) (W.ledger world.new) result.code }
+
+    // What was printed: the line of a demonstration, or a front of it.
+    ensures demonstrated { at (W.ledger world.old).opened ConsoleOut
+        < at (W.ledger world.new).opened ConsoleOut
+        → IfDemonstrates (quiet_in words.now) (λ n. IsPrintedFront n (W.ledger world.new)) }
+
+    // Each status where it comes.
+    ensures bad_words { result.code ≡ 1 → IsBadLine (quiet_in words.now) }
+    ensures bad_words_only { IsBadLine (quiet_in words.now)
+        → (result.code ≡ 1) ⊎ (result.code ≡ 30) }
+    ensures quiet_fault { result.code ≡ 9
+        → Rose (at (W.ledger world.old).faults ConsoleOut)
+        (at (W.ledger world.new).faults ConsoleOut) }
+    ensures passed { result.code ≡ 0 → IsPrinted (quiet_in words.now) (W.ledger world.new) }
+
+    // Each device is given back.
+    ensures balanced { (role : ARole) → Balanced role (W.ledger world.old) (W.ledger world.new) }
+    ensures balanced_clock { ClocksBalanced (W.ledger world.old) (W.ledger world.new) }
+    ensures no_disk { NoDisk (W.ledger world.old) (W.ledger world.new) }
+{
+    let line = read_quiet(words);
     let outcome = answer_uncounted::<W, Brand>(alloc, Blank::new(1), &line, world);
     let told = tell(alloc, words, &line, outcome, world);
     Status {

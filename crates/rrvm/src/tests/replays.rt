@@ -9,17 +9,21 @@ use std::sync::Wait;
 use std::test::Fail;
 use std::thread::Threads;
 
-const REPLAY: &str = "-icount rr=replay,rrfile=log -bios fw";
+pub(crate) const REPLAY: &str = "-icount rr=replay,rrfile=log -bios fw";
 
 /// A world whose file fw has the guest's words, and whose file log these bytes.
-fn world_with(alloc: Global, guest: &[u32], log: &[u8]) -> Result<MemWorld, AllocError> {
+pub(crate) fn world_with(alloc: Global, guest: &[u32], log: &[u8]) -> Result<MemWorld, AllocError> {
     let mut world = world(alloc, guest)?;
     world.add_file("log", log.to_vec(alloc)?)?;
     Ok(world)
 }
 
 /// The header of a log, and these events.
-fn log_of<R: AllocGlobal + Abort>(rt: &R, log: &[u8], events: &[u8]) -> Result<Vec<u8>, Fail> {
+pub(crate) fn log_of<R: AllocGlobal + Abort>(
+    rt: &R,
+    log: &[u8],
+    events: &[u8],
+) -> Result<Vec<u8>, Fail> {
     assert!(rt; log.len() >= 98);
     let mut other = log[..98].to_vec(rt.alloc())?;
     other.extend_from_slice(events)?;
@@ -57,7 +61,7 @@ fn recorded<R: Threads + Wait + Sync + AllocGlobal>(
 }
 
 /// Replays a log with these words, and compares status, console and message.
-fn replays<R: Threads + Wait + Sync + AllocGlobal + Abort>(
+pub(crate) fn replays<R: Threads + Wait + Sync + AllocGlobal + Abort>(
     rt: &R,
     line: &str,
     world: &mut MemWorld,

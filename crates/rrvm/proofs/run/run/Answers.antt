@@ -1,12 +1,11 @@
 use Rattle.std.proofs.Common.{ℕ, ◌≡◌, ◌<◌, ap, sym, subst}
 use Rattle.outside.specs.Ledger.{Ledger}
 use Rattle.outside.specs.Roles.{at}
-use Rattle.outside.specs.declared.roles.Role.TheVariants.{ConsoleOut, LogOut}
+use Rattle.outside.specs.declared.roles.Role.TheVariants.{LogOut}
 use Rattle.rrvm.specs.Asking.{asked}
 use Rattle.rrvm.proofs.Ran.{Gives, run-cause, run-logged}
 use Rattle.rrvm.proofs.run.run.Goals as goal
 
--- src/run.rt:66:1
 pub returns-clause-cause : goal.returns-clause-cause
 returns-clause-cause g c =
     let old = g.W.World.ledger c.args.world.now in
@@ -17,12 +16,9 @@ returns-clause-cause g c =
     c.in-Ok.firmware c.header-header.result
     c.record.result c.ending_outcome.result c.ending_outcome.ensures gives c.header-header.ensures
     c.record.ensures.whole
-    c.record.ensures.unopened c.record.ensures.console_fault c.record.ensures.log_fault
-    c.in-Ok.ensures.kept.opening
-    (ap (λ (l : Ledger). at l.faults ConsoleOut) c.in-Ok.ensures.rest)
-    (ap (λ (l : Ledger). at l.faults LogOut) c.in-Ok.ensures.rest)
+    c.record.ensures.unopened c.record.ensures.input_fault c.record.ensures.console_fault
+    c.record.ensures.log_fault c.in-Ok.ensures.kept.opening c.in-Ok.ensures.rest
 
--- src/run.rt:66:1
 pub returns-clause-log : goal.returns-clause-log
 returns-clause-log g c = λ more.
     let old = g.W.World.ledger c.args.world.now in
@@ -33,6 +29,5 @@ returns-clause-log g c = λ more.
     let opened : at mid.opened LogOut ≡ at old.opened LogOut = ap
     (λ (l : Ledger). at l.opened LogOut) c.in-Ok.ensures.rest in
     run-logged (old.names c.args.words.now.bios.now) (asked c.args.words.now) c.in-Ok.firmware
-    c.header-header.result new gives
-    c.header-header.ensures (c.record.ensures.front
-    (subst (λ (n : ℕ). n < at new.opened LogOut) (sym opened) more))
+    c.header-header.result old mid new gives c.header-header.ensures c.in-Ok.ensures.rest
+    (c.record.ensures.front (subst (λ (n : ℕ). n < at new.opened LogOut) (sym opened) more))

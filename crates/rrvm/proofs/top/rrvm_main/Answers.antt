@@ -1,8 +1,8 @@
 use Rattle.std.proofs.Common.{map, string_bytes}
 use Rattle.command_line.specs.Line.{seen_line, line_in}
 use Rattle.rrvm.proofs.Completing.{replays-told, refuses-told}
-use Rattle.rrvm.proofs.Statuses.{bad-firmware-told, guest-ended-told, unfaulted-told}
-use Rattle.rrvm.proofs.Telling.{told-explained, told-log, told-shown}
+use Rattle.rrvm.proofs.Statuses.{bad-firmware-told, guest-ended-told, passed-told, unfaulted-told}
+use Rattle.rrvm.proofs.Telling.{told-explained, told-log, told-printed, told-shown}
 use Rattle.rrvm.proofs.top.rrvm_main.Goals as goal
 
 pub returns-clause-explained : goal.returns-clause-explained
@@ -31,6 +31,14 @@ returns-clause-shown g c =
     (g.W.World.ledger c.tell-told.new.world)
     c.read_line-line.ensures.value c.tell-told.ensures.rest c.answer_uncounted-outcome.ensures.shown
 
+pub returns-clause-demonstrated : goal.returns-clause-demonstrated
+returns-clause-demonstrated g c =
+    told-printed (seen_line c.read_line-line.result) (line_in c.args.words.now)
+    (g.W.World.ledger c.args.world.now) (g.W.World.ledger c.answer_uncounted-outcome.new.world)
+    (g.W.World.ledger c.tell-told.new.world)
+    c.read_line-line.ensures.value c.tell-told.ensures.rest
+    c.answer_uncounted-outcome.ensures.demonstrated
+
 pub returns-clause-replays : goal.returns-clause-replays
 returns-clause-replays g c =
     replays-told (map string_bytes c.args.words.now) (line_in c.args.words.now)
@@ -52,6 +60,12 @@ returns-clause-bad_firmware g c =
 pub returns-clause-guest : goal.returns-clause-guest
 returns-clause-guest g c =
     guest-ended-told (map string_bytes c.args.words.now) (line_in c.args.words.now)
+    (g.W.World.ledger c.args.world.now) (g.W.World.ledger c.tell-told.new.world) c.status.result
+    (returns-clause-explained g c)
+
+pub returns-clause-passed : goal.returns-clause-passed
+returns-clause-passed g c =
+    passed-told (map string_bytes c.args.words.now) (line_in c.args.words.now)
     (g.W.World.ledger c.args.world.now) (g.W.World.ledger c.tell-told.new.world) c.status.result
     (returns-clause-explained g c)
 
