@@ -31,6 +31,7 @@ usage: rrvm -icount shift=N,rr=record,rrfile=LOG -bios FILE
   -m        RAM in MiB, 1 to 64 (16; of a replay what its log says)
   -budget   the most turns, 1 to 2^40 (1000000000)
   -slice    turns between two checkpoints, 1 to 65536 (10000)
+  demo N    record and replay in memory a guest that prints N letters, 1 to 2000
 
 The console is standard input and output, messages go to standard error. The
 guest ends its run by a write of 0x5555, or CODE * 65536 + 0x3333, to 0x100000.
