@@ -1,3 +1,4 @@
 pub mod ToldLemmas
 pub mod Fronts
 mod ClockLemmas
+mod RoleLemmas

@@ -23,6 +23,8 @@ pub record Ledger : Type 0 where
   -- the bytes that a name holds, and those of standard input
   pub names : List ℕ → Option (List ℕ)
   pub input : Option (List ℕ)
+  -- the name under which the last sink of a role was opened
+  pub sinks : PerRole (Option (List ℕ))
   -- what the sink of a role last given back had taken, and what the clock given back had given
   pub last : PerRole (Option (List ℕ))
   pub clock : Option (List ℕ)
@@ -38,9 +40,16 @@ abbrev pub image_held : Ledger → Option (List ℕ) → Option (List ℕ)
 image_held l (Some name) = l.names name
 image_held l None = Some []
 
--- a source or sink of the role was opened
+-- a source of the role was opened
 abbrev pub opens : Ledger → Role → Ledger
 opens l role = record l { opened = put l.opened role (one_more (at l.opened role)) }
+
+-- a sink of the role was opened, under that name
+abbrev pub opens_sink : Ledger → Role → Option (List ℕ) → Ledger
+opens_sink l role name = record l {
+  opened = put l.opened role (one_more (at l.opened role));
+  sinks = put l.sinks role name;
+}
 
 -- opening failed
 abbrev pub opening_fails : Ledger → Ledger

@@ -32,6 +32,7 @@ mem_ledger w = record {
   clocks_returned = w.counters.clocks_returned;
   names = λ name. bytes_of w.files.items name;
   input = Some w.input.items;
+  sinks = each (λ n. option_map string_bytes n) w.counters.sinks;
   last = each (λ v. Some v.items) w.last;
   clock = clock_gave w.last_clock;
 }

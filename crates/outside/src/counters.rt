@@ -1,12 +1,13 @@
-//! The counts that a world keeps.
-ghost use Rattle.std.specs.Prelude.{◌≡◌};
+//! The counts that a world keeps, and the names of its sinks.
+ghost use Rattle.std.specs.Prelude.{◌≡◌, None, IfOk, option_map, option_copied, string_bytes};
 ghost use Rattle.outside.specs.Causes.{one_more, both};
 ghost use Rattle.outside.specs.Roles.{at, put, same};
 
-use crate::{PerRole, Role};
+use crate::{NoMemory, PerRole, Role};
+use std::alloc::Global;
 
-/// How often devices and openings failed, and how many devices were opened and given back. Each
-/// count stays at `u64::MAX` once it is there.
+/// How often devices and openings failed, how many devices were opened and given back, and the name
+/// of the last sink of each role. Each count stays at `u64::MAX` once it is there.
 #[derive(Drop)]
 pub(crate) struct Counters {
     pub(crate) faults: PerRole<u64>,
@@ -14,6 +15,7 @@ pub(crate) struct Counters {
     pub(crate) opening_faults: u64,
     pub(crate) opened: PerRole<u64>,
     pub(crate) returned: PerRole<u64>,
+    pub(crate) sinks: PerRole<Option<String>>,
     pub(crate) disks_opened: u64,
     pub(crate) disks_returned: u64,
     pub(crate) clocks_opened: u64,
@@ -29,6 +31,7 @@ impl Counters {
           opening_faults = 0;
           opened = same 0;
           returned = same 0;
+          sinks = same None;
           disks_opened = 0;
           disks_returned = 0;
           clocks_opened = 0;
@@ -41,6 +44,7 @@ impl Counters {
             opening_faults: 0,
             opened: PerRole::same(0),
             returned: PerRole::same(0),
+            sinks: no_names(),
             disks_opened: 0,
             disks_returned: 0,
             clocks_opened: 0,
@@ -55,7 +59,7 @@ impl Counters {
         self.opening_faults = self.opening_faults.saturating_add(1);
     }
 
-    /// Counts a source or sink of the role that was opened.
+    /// Counts a source of the role that was opened.
     pub(crate) fn open(&mut self, role: Role)
         ensures { self.new ≡ record self.old {
           opened = put self.old.opened role (one_more (at self.old.opened role));
@@ -63,6 +67,17 @@ impl Counters {
     {
         let count = self.opened.at(role).saturating_add(1);
         self.opened.put(role, count);
+    }
+
+    /// Counts a sink of the role that was opened under that name.
+    pub(crate) fn open_sink(&mut self, role: Role, name: Option<String>)
+        ensures { self.new ≡ record self.old {
+          opened = put self.old.opened role (one_more (at self.old.opened role));
+          sinks = put self.old.sinks role name;
+        } }
+    {
+        self.open(role);
+        self.sinks.put(role, name);
     }
 
     /// Counts an image that was opened.
@@ -110,5 +125,32 @@ impl Counters {
         } }
     {
         self.clocks_returned = self.clocks_returned.saturating_add(1);
+    }
+}
+
+/// No sink was opened yet.
+fn no_names() -> PerRole<Option<String>>
+    ensures { result ≡ same None }
+{
+    PerRole {
+        console_in: None,
+        console_out: None,
+        log_in: None,
+        log_out: None,
+        net_in: None,
+        net_out: None,
+        firmware: None,
+        messages: None,
+    }
+}
+
+/// The name, to be kept.
+pub(crate) fn kept_name(alloc: Global, name: Option<&str>) -> Result<Option<String>, NoMemory>
+    ensures { IfOk result
+        (λ kept. option_map string_bytes kept ≡ option_copied name.entry) }
+{
+    match name {
+        Some(name) => Ok(Some(String::from_str(alloc, name)?)),
+        None => Ok(None),
     }
 }

@@ -3,7 +3,7 @@ ghost use Rattle.std.specs.Prelude.{◌≡◌, Some, None, IsErrOf, OnOk, option
 ghost use Rattle.std.specs.Str.{bytes_eq};
 ghost use Rattle.outside.specs.Host.{source_left, source_faults, sink_faults, image_content, image_size, image_faults, host_ledger, host_sizes};
 
-use crate::counters::Counters;
+use crate::counters::{Counters, kept_name};
 use crate::{
     Failed, FileImage, FileSink, FileSource, Image, OpenError, Role, Sink, Source, StdClock,
     StdSink, StdSource, World,
@@ -223,6 +223,7 @@ impl World for HostWorld {
     }
 
     fn sink(&mut self, role: Role, name: Option<&str>) -> Result<HostSink, OpenError> {
+        let kept = kept_name(self.rt.alloc(), name)?;
         let sink = match (name, role) {
             (Some(name), _) => match FileSink::create(self.rt, name) {
                 Ok(sink) => HostSink::File(sink),
@@ -232,7 +233,7 @@ impl World for HostWorld {
             (None, Role::Messages) => HostSink::Standard(StdSink::errors(self.rt)),
             (None, _) => HostSink::Nothing,
         };
-        self.counters.open(role);
+        self.counters.open_sink(role, kept);
         Ok(sink)
     }
 

@@ -4,7 +4,7 @@ ghost use Rattle.std.specs.Str.{bytes_eq};
 ghost use Rattle.outside.specs.Roles.{at, put, same, each};
 ghost use Rattle.outside.specs.Ledger.{IsNew};
 
-use crate::counters::Counters;
+use crate::counters::{Counters, kept_name};
 use crate::{ListClock, MemImage, MemSink, MemSource, NoMemory, OpenError, PerRole, Role, World};
 use std::alloc::Global;
 use std::mem;
@@ -65,6 +65,7 @@ impl MemWorld {
         ensures new { IsNew (mem_ledger result) }
         ensures names { (name : List ℕ) → (mem_ledger result).names name ≡ None }
         ensures input { (mem_ledger result).input ≡ Some [] }
+        ensures sinks { (mem_ledger result).sinks ≡ same None }
         ensures last { (mem_ledger result).last ≡ same (Some []) }
         ensures clock { (mem_ledger result).clock ≡ Some [] }
         ensures plan { mem_plan result ≡ record {
@@ -158,6 +159,16 @@ impl MemWorld {
         ensures { at (mem_ledger self.now).last role ≡ Some result.now }
     {
         self.last.at(role)
+    }
+
+    /// The name under which the role's last sink was opened, and none where it had none.
+    pub fn sink_name(&self, role: Role) -> Option<&str>
+        ensures { option_copied result ≡ at (mem_ledger self.now).sinks role }
+    {
+        match self.counters.sinks.at(role) {
+            Some(name) => Some(name.as_str()),
+            None => None,
+        }
     }
 
     /// How many devices of the role were opened.
@@ -262,7 +273,7 @@ impl World for MemWorld {
     type Clock = ListClock;
 
     ghost use Rattle.outside.specs.MemWorlds.{mem_ledger, mem_plan, mem_sizes, open_fails, found, Numbers};
-    ghost use Rattle.outside.specs.Ledger.{held, image_held, opens, opening_fails, source_back, sink_back, opens_disk, disk_back, opens_clock, clock_back, KeepsSizes, HasSize};
+    ghost use Rattle.outside.specs.Ledger.{held, image_held, opens, opens_sink, opening_fails, source_back, sink_back, opens_disk, disk_back, opens_clock, clock_back, KeepsSizes, HasSize};
     ghost use Rattle.outside.specs.Fakes.{uncalled, clock_gave};
 
     ghost ledger = { mem_ledger };
@@ -306,7 +317,8 @@ impl World for MemWorld {
 
     /// Fails where the open is to fail, and at no other name.
     fn sink(&mut self, role: Role, name: Option<&str>) -> Result<MemSink, OpenError>
-        ensures opened { OnOk result (mem_ledger self.new ≡ opens (mem_ledger self.old) role) }
+        ensures opened { OnOk result (mem_ledger self.new
+            ≡ opens_sink (mem_ledger self.old) role (option_copied name.entry)) }
         ensures empty { IfOk result (λ k. k.kept ≡ []) }
         ensures fresh { IfOk result (λ k. k.calls.faults ≡ 0) }
         ensures failed { IsErrOf result OpenError.Failed
@@ -327,8 +339,9 @@ impl World for MemWorld {
             return Err(self.refuse());
         }
         let failing = self.failing.at(role).to_vec(self.alloc)?;
+        let kept = kept_name(self.alloc, name)?;
         self.note_name(name);
-        self.counters.open(role);
+        self.counters.open_sink(role, kept);
         Ok(MemSink::new(self.alloc, failing))
     }
 

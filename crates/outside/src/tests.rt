@@ -121,6 +121,8 @@ fn a_world_in_memory_tells_what_a_sink_had_taken(rt: HostRuntime) -> Result<(), 
     world.take_sink(Role::LogOut, sink);
     assert_eq!(rt; world.written(Role::LogOut), b"ab".as_slice());
     assert_eq!(rt; world.opened(Role::LogOut), 1);
+    assert_eq!(rt; world.sink_name(Role::LogOut), Some("log"));
+    assert_eq!(rt; world.sink_name(Role::ConsoleOut), None);
     assert_eq!(rt; world.opened(Role::ConsoleOut), 0);
     Ok(())
 }

@@ -1,7 +1,7 @@
 //! Where the devices of a run come from, and where they are given back.
 ghost use Rattle.std.specs.Prelude.{◌≡◌, ℕ, List, IsSome, IfOk, OnOk, IsErrOf, option_copied};
 ghost use Rattle.std.specs.declared.option.Option.{Option};
-ghost use Rattle.outside.specs.Ledger.{Ledger, held, image_held, opens, opening_fails, source_back, sink_back, opens_disk, disk_back, opens_clock, clock_back, KeepsSizes, HasSize, StartsEmpty};
+ghost use Rattle.outside.specs.Ledger.{Ledger, held, image_held, opens, opens_sink, opening_fails, source_back, sink_back, opens_disk, disk_back, opens_clock, clock_back, KeepsSizes, HasSize, StartsEmpty};
 
 use crate::{HostClock, Image, Role, Sink, Source};
 use std::alloc::AllocError;
@@ -30,6 +30,7 @@ impl From<AllocError> for OpenError {
 ///
 /// - how often the devices of a role that were given back failed, those of the disk, and openings;
 /// - for each role, the disk and the clock how many were opened and how many were given back;
+/// - for each role the name under which its last sink was opened;
 /// - what a name and standard input hold, and what the sink of a role and the clock that were last
 ///   given back had taken and given. A world may tell nothing of these.
 ///
@@ -67,7 +68,8 @@ pub trait World {
     /// Opens a sink. A named file is made empty. With no name `ConsoleOut` is standard output,
     /// `Messages` is standard error, and a sink of any other role drops what it takes.
     fn sink(&mut self, role: Role, name: Option<&str>) -> Result<Self::Sink, OpenError>
-        ensures opened { OnOk result (ledger self.new ≡ opens (ledger self.old) role) }
+        ensures opened { OnOk result (ledger self.new
+            ≡ opens_sink (ledger self.old) role (option_copied name.entry)) }
         ensures empty { IfOk result (λ k. StartsEmpty (Self.Sink.taken k)) }
         ensures fresh { IfOk result (λ k. Self.Sink.faults k ≡ 0) }
         // errors
