@@ -1,7 +1,9 @@
 -- What a reader did in one step after another.
-use Rattle.std.proofs.Common.{◌≡◌, ℕ, ◌<◌, ◌≤◌, ◌+◌, ◌^◌, false, List, ◌++◌, length, None, Some, refl, sym, ap, ◌∙◌, inl, inr, arith, subst, append_assoc, append-nil, length-append}
+use Rattle.std.proofs.Common.{◌≡◌, ℕ, ◌<◌, ◌≤◌, ◌+◌, ◌^◌, false, List, ◌++◌, length, take, ◌-◌, None, Some, refl, sym, ap, ◌∙◌, inl, inr, arith, subst, append_assoc, append-nil, length-append}
 use Rattle.std.specs.Prelude.{IfSome, Ok, Err}
 use Rattle.std.specs.declared.option.Option.{Option}
+use Rattle.std.proofs.lemmas.List.{take_at}
+use Rattle.std.proofs.Math.Seq.{take-append-add}
 use Rattle.std.specs.Io.KnownBytes.{Consumes, Keeps, IsAtEnd, prepend_known}
 use Rattle.outside.specs.Causes.{Rose}
 use Rattle.event_log.specs.declared.event.Event.{Event}
@@ -10,11 +12,11 @@ use Rattle.event_log.specs.declared.parse.ParseError.TheVariants as parse
 use Rattle.event_log.specs.declared.rule.Rule.{Rule}
 use Rattle.event_log.specs.declared.stream_error.StreamError.{StreamError}
 use Rattle.event_log.specs.declared.stream_error.StreamError.TheVariants as stream
-use Rattle.event_log.specs.Grammar.{Format, Stops, Cut, Bad}
+use Rattle.event_log.specs.Grammar.{Stops, Cut, Bad}
 use Rattle.event_log.specs.Spelling.{event, text}
 use Rattle.event_log.specs.HeaderFormat.{header, header_text}
 use Rattle.event_log.specs.declared.header.Header.{Header}
-use Rattle.event_log.specs.Reading.{Reader, Unread, reading, read_so_far, ahead, Runs, Stays, Stopped, Waits, Nexts, Mores, Parses, IsReady, Heads, HeadParses}
+use Rattle.event_log.specs.Reading.{Reader, Unread, reading, read_so_far, to_limit, ahead, Runs, Stays, Stopped, Waits, Nexts, Ends, Mores, Parses, IsReady, Heads, HeadParses}
 use Rattle.event_log.proofs.Widths.{bad_longer}
 use Rattle.event_log.proofs.HeaderLaws.{header_length}
 
@@ -46,11 +48,16 @@ pub consumed : (left : Option (List ℕ)) (held front rest : List ℕ) → held 
 consumed None held front rest is = tt
 consumed (Some more) held front rest is = ap (λ z. z ++ more) is ∙ append_assoc front rest more
 
--- a fault in what is held is one in what is ahead
-pub bad_ahead : {R X : Type 0} (format : Format R X) (left : Option (List ℕ)) (held : List ℕ) (rule : R)
-    → Stops format held (Bad rule) → IfSome (prepend_known held left) (λ bytes. Stops format bytes (Bad rule))
-bad_ahead format None held rule s = tt
-bad_ahead format (Some more) held rule s = bad_longer format held more rule s
+-- a fault in what is held is one in what is ahead, up to the limit
+bad_ahead : (left : Option (List ℕ)) (place : ℕ) (held : List ℕ) (rule : Rule) → place + length held ≤ 2 ^ 40
+    → Stops event held (Bad rule) → IfSome (prepend_known held left) (λ bytes. Stops event (to_limit place bytes) (Bad rule))
+bad_ahead None place held rule fits s = tt
+bad_ahead (Some more) place held rule fits s =
+    let room : ℕ = 2 ^ 40 - place - length held in
+    let all : length held + room ≡ 2 ^ 40 - place = omega (arith, fits) in
+    subst (λ n. Stops event (take n (held ++ more)) (Bad rule)) all
+    (subst (λ z. Stops event z (Bad rule)) (sym (take-append-add held more room))
+    (bad_longer event held (take room more) rule s))
 
 -- at the source's end what is held is all
 pub all_held : (P : List ℕ → Type 0) (left : Option (List ℕ)) (held : List ℕ) → IsAtEnd left → P held → IfSome (prepend_known held left) P
@@ -73,28 +80,49 @@ pub runs_same : (left : Option (List ℕ)) (faults : ℕ) (u : Unread) → u.fai
     → Runs (reading left faults u) (reading left faults u)
 runs_same left faults u works read = record { worked = works; works = works; faults = refl; read = read; later = omega arith }
 
-pub stopped_at_once : (left : Option (List ℕ)) (faults : ℕ) (u : Unread) (e : StreamError)
-    → IsReady u (Err e) → Stopped (reading left faults u) (reading left faults u) e
-stopped_at_once left faults u stream.Failed is = (is, inl (is, refl))
-stopped_at_once left faults u stream.TooLong is = record {
-  worked = is.0;
-  works = is.0;
-  faults = refl;
-  read = is.1;
-  later = omega arith;
-  stays = stays_same (reading left faults u);
-}
-stopped_at_once left faults u stream.NoMemory is = is
-stopped_at_once left faults u (stream.Parse fault) is = is
+-- a source that may not be asked stays as it was
+pub stopped_at_once : (left : Option (List ℕ)) (faults : ℕ) (u : Unread) (reason : Type 0) (e : StreamError)
+    → IsReady u (Err e) → Stopped (reading left faults u) (reading left faults u) reason e
+stopped_at_once left faults u reason stream.Failed is = (is, inl (is, refl))
+stopped_at_once left faults u reason stream.TooLong is = (
+  record {
+    worked = is.0;
+    works = is.0;
+    faults = refl;
+    read = is.1;
+    later = omega arith;
+    stays = stays_same (reading left faults u);
+  },
+  λ within. absurd (omega (arith, within, is.1)),
+)
+stopped_at_once left faults u reason stream.NoMemory is = absurd is
+stopped_at_once left faults u reason (stream.Parse fault) is = absurd is
 
-pub stopped_then : (old mid new : Reader) (e : StreamError) → Runs old mid → Stays old mid → Stopped mid new e → Stopped old new e
-stopped_then old mid new stream.Failed run stay (failed, inl (before, same)) = cc
-stopped_then old mid new stream.Failed run stay (failed, inr (before, rose, more, read)) =
+stopped_then : (old mid new : Reader) (reason first : Type 0) (e : StreamError) → Runs old mid → Stays old mid
+    → (reason → first) → Stopped mid new reason e → Stopped old new first e
+stopped_then old mid new reason first stream.Failed run stay why (failed, inl (before, same)) = cc
+stopped_then old mid new reason first stream.Failed run stay why (failed, inr (before, rose, more, read)) =
     (failed, inr (run.worked, subst (λ n. Rose n new.faults) run.faults rose, stays_then old mid new stay more, read))
-stopped_then old mid new stream.TooLong run stay s =
-    record { worked = run.worked; works = s.works; faults = s.faults ∙ run.faults; read = s.read; later = omega (arith, run.later, s.later); stays = stays_then old mid new stay s.stays }
-stopped_then old mid new stream.NoMemory run stay s = s
-stopped_then old mid new (stream.Parse fault) run stay s = s
+stopped_then old mid new reason first stream.TooLong run stay why (s, is) = (
+  record { worked = run.worked; works = s.works; faults = s.faults ∙ run.faults; read = s.read; later = omega (arith, run.later, s.later); stays = stays_then old mid new stay s.stays },
+  λ within. why (is run.read),
+)
+stopped_then old mid new reason first stream.NoMemory run stay why s = absurd s
+stopped_then old mid new reason first (stream.Parse fault) run stay why s = absurd s
+
+-- fewer bytes than asked for are held, and the source stops
+pub waits_stopped : (old mid new : Reader) (count : ℕ) (e : StreamError) → Runs old mid → Stays old mid
+    → length mid.unread.held < count → Mores mid new (Err e) → Waits old new count (Err e)
+waits_stopped old mid new count e run stay few s =
+    stopped_then old mid new (read_so_far mid.unread ≡ 2 ^ 40) (2 ^ 40 < old.unread.place + count) e run stay
+    (λ full. omega (arith, full, few, stay.place)) s
+
+-- what a call that waits answers where the source stops
+pub ends_stopped : (old new : Reader) (e : StreamError) → Waits old new 1 (Err e) → Ends old new (Err e)
+ends_stopped old new stream.Failed s = s
+ends_stopped old new stream.TooLong (long, is) = (long, λ within. omega (arith, within, is within))
+ends_stopped old new stream.NoMemory s = absurd s
+ends_stopped old new (stream.Parse fault) s = absurd s
 
 -- ---- the event that stands there
 
@@ -127,7 +155,9 @@ module _ (old : Reader) (left : Option (List ℕ)) (faults : ℕ) (mid new : Unr
         run,
         stay,
         place ∙ stay.place,
-        told_after (λ bytes. Stops event bytes (Bad rule)) (ahead old) (prepend_known mid.held left) stay.bytes (bad_ahead event left mid.held rule stops),
+        told_after (λ bytes. Stops event (to_limit old.unread.place bytes) (Bad rule)) (ahead old) (prepend_known mid.held left) stay.bytes
+            (subst (λ n. IfSome (prepend_known mid.held left) (λ bytes. Stops event (to_limit n bytes) (Bad rule))) stay.place
+            (bad_ahead left mid.place mid.held rule run.read stops)),
       )
 
   pub parsed_short : Parses mid new (Err parse.NoMemory) → Nexts old (reading left faults new) (Err stream.NoMemory)
@@ -142,15 +172,50 @@ parsed_cut old new left faults mid last offset run stay (same, place, stops, few
     let run_on : Runs before new = subst (λ u. Runs (reading left faults u) new) same runs in
     let stay_on : Stays before new = subst (λ u. Stays (reading left faults u) new) same stays in
     let all : Stays old new = stays_then old before new stay stay_on in
+    let Last : List ℕ → Type 0 = λ bytes. (old.unread.place + length bytes ≤ 2 ^ 40) × Stops event bytes Cut in
     let held_too : mid.held ≡ new.unread.held = sym (held ∙ ap (λ u. u.held) same) in (
       runs_then old before new run run_on,
       all,
       place ∙ stay.place,
-      told_after (λ bytes. Stops event bytes Cut) (ahead old) (ahead new) all.bytes
-          (all_held (λ bytes. Stops event bytes Cut) new.left new.unread.held end (subst (λ z. Stops event z Cut) held_too stops)),
+      told_after Last (ahead old) (ahead new) all.bytes
+          (all_held Last new.left new.unread.held end (omega (arith, run_on.read, all.place), subst (λ z. Stops event z Cut) held_too stops)),
     )
 
-pub ruleset nexts = (stays_same, runs_same, stopped_at_once, stopped_then, runs_then, stays_then, parsed_event, parsed_bad, parsed_short, parsed_cut)
+-- what `next` answers where the source stops
+next_stopped : (old new : Reader) (e : StreamError)
+    → Stopped old new (IfSome (ahead old) (λ bytes. Stops event (to_limit old.unread.place bytes) Cut)) e → Nexts old new (Err e)
+next_stopped old new stream.Failed s = s
+next_stopped old new stream.TooLong s = s
+next_stopped old new stream.NoMemory s = absurd s
+next_stopped old new (stream.Parse fault) s = absurd s
+
+pub next_at_once : (left : Option (List ℕ)) (faults : ℕ) (u : Unread) (e : StreamError) → IsReady u (Err e)
+    → Nexts (reading left faults u) (reading left faults u) (Err e)
+next_at_once left faults u e is =
+    next_stopped (reading left faults u) (reading left faults u) e (stopped_at_once left faults u _ e is)
+
+-- a front of what is ahead that reaches to the limit
+cut_there : (left : Option (List ℕ)) (place : ℕ) (held : List ℕ) → place + length held ≡ 2 ^ 40 → Stops event held Cut
+    → IfSome (prepend_known held left) (λ bytes. Stops event (to_limit place bytes) Cut)
+cut_there None place held full stops = tt
+cut_there (Some more) place held full stops =
+    subst (λ z. Stops event z Cut) (sym (take_at held more (2 ^ 40 - place) (omega (arith, full)))) stops
+
+-- the source stops where the last event is cut
+pub cut_stopped : (old new : Reader) (left : Option (List ℕ)) (faults : ℕ) (mid last : Unread) (offset : ℕ) (e : StreamError)
+    → Runs old (reading left faults mid) → Stays old (reading left faults mid) → Parses mid last (Err (parse.Cut offset))
+    → Mores (reading left faults last) new (Err e) → Nexts old new (Err e)
+cut_stopped old new left faults mid last offset e run stay (same, place, stops, few) s =
+    let before : Reader = reading left faults mid in
+    let on : Mores before new (Err e) = subst (λ u. Mores (reading left faults u) new (Err e)) same s in
+    let cut : (read_so_far mid ≡ 2 ^ 40) → IfSome (ahead old) (λ bytes. Stops event (to_limit old.unread.place bytes) Cut) =
+    λ full. subst (λ n. IfSome (ahead old) (λ bytes. Stops event (to_limit n bytes) Cut)) stay.place
+    (told_after (λ bytes. Stops event (to_limit mid.place bytes) Cut) (ahead old) (ahead before) stay.bytes
+    (cut_there left mid.place mid.held full stops)) in
+    next_stopped old new e
+    (stopped_then old before new (read_so_far mid ≡ 2 ^ 40) _ e run stay cut on)
+
+pub ruleset nexts = (stays_same, runs_same, stopped_at_once, waits_stopped, ends_stopped, runs_then, stays_then, parsed_event, parsed_bad, parsed_short, parsed_cut, next_at_once, cut_stopped)
 
 -- ---- the header that stands there
 
@@ -203,4 +268,12 @@ pub parsed_head_cut : (old new : Reader) → Waits old new 98 (Ok false) → Hea
 parsed_head_cut old new (run, stay, short, end) =
     (run, stay, refl, told_after (λ bytes. length bytes < 98) (ahead old) (ahead new) stay.bytes (all_held (λ bytes. length bytes < 98) new.left new.unread.held end short))
 
-pub ruleset heads = (parsed_head, parsed_head_fault, parsed_head_cut)
+-- a header never reaches to the limit
+pub head_stopped : (old new : Reader) (e : StreamError) → old.unread.place ≡ 0 → length new.unread.held ≤ 65536
+    → Waits old new 98 (Err e) → Heads old new (Err e)
+head_stopped old new stream.Failed begin few s = s
+head_stopped old new stream.TooLong begin few (long, is) = absurd (omega (arith, begin, few, long.read, long.stays.place))
+head_stopped old new stream.NoMemory begin few s = absurd s
+head_stopped old new (stream.Parse fault) begin few s = absurd s
+
+pub ruleset heads = (parsed_head, parsed_head_fault, parsed_head_cut, head_stopped)

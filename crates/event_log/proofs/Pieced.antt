@@ -1,5 +1,5 @@
 -- What a reader answers rests on the bytes ahead alone.
-use Rattle.std.proofs.Common.{◌≡◌, ℕ, List, ◌++◌, None, Some, sym, ap, ◌∙◌, subst}
+use Rattle.std.proofs.Common.{◌≡◌, ℕ, ◌+◌, ◌-◌, ◌^◌, ◌≤◌, List, ◌++◌, length, take, drop, None, Some, sym, ap, ◌∙◌, subst, take-append-drop}
 use Rattle.std.specs.Prelude.{Result, Ok, Err, IfSome}
 use Rattle.std.specs.declared.option.Option.{Option}
 use Rattle.std.specs.Io.KnownBytes.{Consumes}
@@ -10,8 +10,9 @@ use Rattle.event_log.specs.declared.stream_error.StreamError.{StreamError}
 use Rattle.event_log.specs.declared.stream_error.StreamError.TheVariants as stream
 use Rattle.event_log.specs.Grammar.{Fault, Cut, Bad, read, Stops}
 use Rattle.event_log.specs.Spelling.{event, text, IsEvent}
-use Rattle.event_log.specs.Reading.{Reader, ahead, Nexts, IsAnswer}
+use Rattle.event_log.specs.Reading.{Reader, ahead, to_limit, Nexts, IsAnswer}
 use Rattle.event_log.proofs.Exact.{meets_read}
+use Rattle.event_log.proofs.Widths.{bad_longer}
 use Rattle.event_log.proofs.Spelled.{text_spells}
 
 -- what reading the bytes gives, and the place, tell the answer
@@ -31,14 +32,27 @@ rest_after bytes front (Some after) c = (after, c)
 spelled : (bytes after : List ℕ) (e : Event) → IsEvent e → bytes ≡ text e ++ after → read event bytes ≡ Ok (e, after)
 spelled bytes after e is parts = meets_read event bytes (Ok (e, after)) (rw parts (text_spells e after is))
 
+-- a fault before the limit is one of all bytes
+bad_whole : (place : ℕ) (bytes : List ℕ) (rule : Rule) → Stops event (to_limit place bytes) (Bad rule) → Stops event bytes (Bad rule)
+bad_whole place bytes rule s =
+    let count : ℕ = 2 ^ 40 - place in
+    subst (λ z. Stops event z (Bad rule)) (take-append-drop count bytes)
+    (bad_longer event (take count bytes) (drop count bytes) rule s)
+
 told : (old new : Reader) (bytes : List ℕ) (r : Result (Event × ℕ) StreamError) → ahead old ≡ Some bytes → Nexts old new r → IsAnswer r → Told (read event bytes) old.unread.place r
 told old new bytes (Ok found) known (runs, place, is, passes) some =
     let (after, parts) = rest_after bytes (text found.0) (ahead new) (subst (λ a. Consumes a (ahead new) (text found.0)) known passes.bytes) in
     (place, (after, spelled bytes after found.0 is parts))
-told old new bytes (Err (stream.Parse (parse.Bad offset rule))) known (runs, stays, place, stops) some =
-    (place, meets_read event bytes (Err (Bad rule)) (subst (λ a. IfSome a (λ z. Stops event z (Bad rule))) known stops))
-told old new bytes (Err (stream.Parse (parse.Cut offset))) known (runs, stays, place, stops) some =
-    (place, meets_read event bytes (Err Cut) (subst (λ a. IfSome a (λ z. Stops event z Cut)) known stops))
+told old new bytes (Err (stream.Parse (parse.Bad offset rule))) known (runs, stays, place, stops) some = (
+  place,
+  meets_read event bytes (Err (Bad rule)) (bad_whole old.unread.place bytes rule
+      (subst (λ a. IfSome a (λ z. Stops event (to_limit old.unread.place z) (Bad rule))) known stops)),
+)
+told old new bytes (Err (stream.Parse (parse.Cut offset))) known (runs, stays, place, stops) some = (
+  place,
+  meets_read event bytes (Err Cut)
+      (subst (λ a. IfSome a (λ z. (old.unread.place + length z ≤ 2 ^ 40) × Stops event z Cut)) known stops).1,
+)
 told old new bytes (Err (stream.Parse parse.NoMemory)) known never some = never
 told old new bytes (Err stream.Failed) known n some = some
 told old new bytes (Err stream.TooLong) known n some = some

@@ -1,5 +1,5 @@
 -- What a reader of a log does with its bytes.
-use Rattle.std.specs.Prelude.{◌≡◌, ℕ, ◌+◌, ◌^◌, ◌<◌, ◌≤◌, ◌⊎◌, Bool, true, false, List, [], ◌++◌, length, Result, Ok, Err, IfSome, ⊤}
+use Rattle.std.specs.Prelude.{◌≡◌, ℕ, ◌+◌, ◌^◌, ◌<◌, ◌≤◌, ◌⊎◌, Bool, true, false, List, [], ◌++◌, length, take, ◌-◌, Result, Ok, Err, IfSome, ⊤}
 use Rattle.std.specs.declared.option.Option.{Option}
 use Rattle.std.specs.Io.KnownBytes.{Consumes, Keeps, IsAtEnd, prepend_known}
 use Rattle.outside.specs.Causes.{Rose}
@@ -68,7 +68,7 @@ Breaks old new =
     ⊎ ((old.unread.failed ≡ false) × Rose old.faults new.faults × Stays old new
     × (read_so_far new.unread ≤ 2 ^ 40)))
 
--- a byte past 2^40 was read
+-- a byte past 2^40 was read, now or before
 pub record IsLong (old new : Reader) : Type 0 where
   pub worked : old.unread.failed ≡ false
   pub works : new.unread.failed ≡ false
@@ -77,19 +77,27 @@ pub record IsLong (old new : Reader) : Type 0 where
   pub later : read_so_far old.unread ≤ read_so_far new.unread
   pub stays : Stays old new
 
--- what can go wrong with the source
-abbrev pub Stopped : Reader → Reader → StreamError → Type 0
-Stopped old new stream.Failed = Breaks old new
-Stopped old new stream.TooLong = IsLong old new
-Stopped old new stream.NoMemory = ⊥
-Stopped old new (stream.Parse fault) = ⊥
+-- A byte past 2^40 was read. Where it was read now, then for this reason.
+abbrev pub Overran : Reader → Reader → Type 0 → Type 0
+Overran old new reason = IsLong old new × (read_so_far old.unread ≤ 2 ^ 40 → reason)
+
+-- what can go wrong with the source, and for what reason a byte past 2^40 is read
+abbrev pub Stopped : Reader → Reader → Type 0 → StreamError → Type 0
+Stopped old new reason stream.Failed = Breaks old new
+Stopped old new reason stream.TooLong = Overran old new reason
+Stopped old new reason stream.NoMemory = ⊥
+Stopped old new reason (stream.Parse fault) = ⊥
+
+-- the bytes from a place on, up to the limit of 2^40
+abbrev pub to_limit : ℕ → List ℕ → List ℕ
+to_limit place bytes = take (2 ^ 40 - place) bytes
 
 -- so many bytes are held, or all that there are
 abbrev pub Waits : Reader → Reader → ℕ → Result Bool StreamError → Type 0
 Waits old new count (Ok true) = Runs old new × Stays old new × (count ≤ length new.unread.held)
 Waits old new count (Ok false) =
     Runs old new × Stays old new × (length new.unread.held < count) × IsAtEnd new.left
-Waits old new count (Err error) = Stopped old new error
+Waits old new count (Err error) = Stopped old new (2 ^ 40 < old.unread.place + count) error
 
 -- a header that stands there was read, or the first fault
 abbrev pub Heads : Reader → Reader → Result Header StreamError → Type 0
@@ -101,23 +109,26 @@ Heads old new (Err (stream.Parse (parse.Bad offset rule))) =
 Heads old new (Err (stream.Parse (parse.Cut offset))) =
     Runs old new × Stays old new × (offset ≡ 0) × IfSome (ahead old) (λ bytes. length bytes < 98)
 Heads old new (Err (stream.Parse parse.NoMemory)) = ⊥
-Heads old new (Err stream.Failed) = Stopped old new stream.Failed
-Heads old new (Err stream.TooLong) = Stopped old new stream.TooLong
+Heads old new (Err stream.Failed) = Breaks old new
+Heads old new (Err stream.TooLong) = ⊥
 Heads old new (Err stream.NoMemory) = ⊥
 
--- the event that stands there was read, with its place, or the first fault
+-- The event that stands there was read, with its place, or the first fault of what stands before
+-- the limit. A byte past 2^40 is read only where that is cut.
 abbrev pub Nexts : Reader → Reader → Result (Event × ℕ) StreamError → Type 0
 Nexts old new (Ok found) =
     Runs old new × (found.1 ≡ old.unread.place) × IsEvent found.0 × Passes old new (text found.0)
 Nexts old new (Err (stream.Parse (parse.Bad offset rule))) =
     Runs old new × Stays old new × (offset ≡ old.unread.place)
-    × IfSome (ahead old) (λ bytes. Stops event bytes (Bad rule))
+    × IfSome (ahead old) (λ bytes. Stops event (to_limit old.unread.place bytes) (Bad rule))
 Nexts old new (Err (stream.Parse (parse.Cut offset))) =
     Runs old new × Stays old new × (offset ≡ old.unread.place)
-    × IfSome (ahead old) (λ bytes. Stops event bytes Cut)
+    × IfSome (ahead old) (λ bytes.
+    (old.unread.place + length bytes ≤ 2 ^ 40) × Stops event bytes Cut)
 Nexts old new (Err (stream.Parse parse.NoMemory)) = ⊥
-Nexts old new (Err stream.Failed) = Stopped old new stream.Failed
-Nexts old new (Err stream.TooLong) = Stopped old new stream.TooLong
+Nexts old new (Err stream.Failed) = Breaks old new
+Nexts old new (Err stream.TooLong) = Overran old new
+    (IfSome (ahead old) (λ bytes. Stops event (to_limit old.unread.place bytes) Cut))
 Nexts old new (Err stream.NoMemory) = Runs old new × Stays old new
 
 -- whether nothing is ahead
@@ -127,7 +138,7 @@ Ends old new (Ok true) =
 Ends old new (Ok false) =
     Runs old new × Stays old new × (0 < length new.unread.held)
     × IfSome (ahead old) (λ bytes. 0 < length bytes)
-Ends old new (Err error) = Stopped old new error
+Ends old new (Err error) = Stopped old new (old.unread.place ≡ 2 ^ 40) error
 
 -- one piece more is held, or there is no more
 abbrev pub Mores : Reader → Reader → Result Bool StreamError → Type 0
@@ -135,7 +146,7 @@ Mores old new (Ok true) =
     Runs old new × Stays old new × (length old.unread.held < length new.unread.held)
 Mores old new (Ok false) =
     Runs old new × Stays old new × (new.unread.held ≡ old.unread.held) × IsAtEnd new.left
-Mores old new (Err error) = Stopped old new error
+Mores old new (Err error) = Stopped old new (read_so_far old.unread ≡ 2 ^ 40) error
 
 -- the event at the front of what is held, or the first fault there
 abbrev pub Parses : Unread → Unread → Result (Event × ℕ) ParseError → Type 0

@@ -65,8 +65,10 @@ impl ReadAhead {
 
     /// The place in the log of what is read next.
     pub fn place(&self) -> u64
-        ensures { result ≡ self.now.place }
+        ensures place { result ≡ self.now.place }
+        ensures most { length self.now.held ≤ 65536 }
     {
+        let _held = self.held.len();
         self.place
     }
 

@@ -62,7 +62,8 @@ impl<S: Source> LogReader<S> {
 
     /// The place in the log of what is read next.
     pub fn place(&self) -> u64
-        ensures { result ≡ self.now.unread.place }
+        ensures place { result ≡ self.now.unread.place }
+        ensures most { length self.now.unread.held ≤ 65536 }
     {
         self.unread.place()
     }
