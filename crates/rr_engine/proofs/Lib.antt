@@ -3,6 +3,7 @@ pub mod Hearing
 pub mod Joining
 pub mod Entering
 pub mod Stopping
+pub mod Deafening
 pub mod Owing
 pub mod Falling
 pub mod Running
@@ -10,5 +11,7 @@ pub mod Idling
 pub mod Endings
 pub mod Rounding
 pub mod Wholes
+pub mod Knowing
+pub mod Limits
 pub mod Following
 pub mod Closing

@@ -2,7 +2,6 @@
 use Rattle.std.proofs.Common.{◌≡◌, ℕ, Bool, true, false, arith, List, [], ◌∷◌, ◌++◌, refl, sym, ap, ◌∙◌, subst, append-nil, inl, inr}
 use Rattle.std.specs.Prelude.{Some, None, Result, Ok, Err}
 use Rattle.std.specs.declared.option.Option.{Option}
-use Rattle.std.specs.Io.KnownBytes.{Keeps}
 use Rattle.outside.specs.Causes.{Rose, Stood}
 use Rattle.outside.specs.Told.{Takes, TakesFront}
 use Rattle.outside.proofs.ToldLemmas.{Takes-refl, Takes-trans, TakesFront-none, TakesFront-all, TakesFront-after, TakesFront-longer}
@@ -17,11 +16,11 @@ use Rattle.board.proofs.TakenLaws.{due-with}
 use Rattle.board.specs.Taken.{with_out, without_out}
 use Rattle.rr_engine.specs.declared.parts.Break.{Break}
 use Rattle.rr_engine.specs.declared.parts.Break.TheVariants.{ConsoleRead, ConsoleWrite, LogWrite, NoMemory}
-use Rattle.io_workers.specs.Intake.{Intake, Progress, Fails}
+use Rattle.io_workers.specs.Intake.{Intake}
 use Rattle.rr_engine.specs.Stand.{Stand}
 use Rattle.rr_engine.specs.Input.{unread, Heard, Read}
 use Rattle.rr_engine.specs.Recording.{clock_value, clock_values, Gave, Recorded, Goes, Notes, Shows, Flushed, Stopped, IsStopped, IsLogged, Stops, Enters, Sent, or_memory}
-use Rattle.rr_engine.proofs.Hearing.{heard-none, read-none, kept-read, kept-heard, kept-unread}
+use Rattle.rr_engine.proofs.Hearing.{heard-none, read-none}
 use Rattle.rr_engine.proofs.Joining.{some_state, run-none, run-one, run-behind, appended-none, gave-none, Begun}
 use Rattle.rr_engine.proofs.Entering.{rest-of, LeavesInput, leaves-read}
 
@@ -114,7 +113,7 @@ spill-rose o p q r s stopped =
     subst (λ (z : ℕ). Rose p.console_faults z) (sym stopped.console_faults) s.2
 
 -- a count that rose didn't stand
-not-both : (before now : ℕ) → Rose before now → Stood before now → ⊥
+pub not-both : (before now : ℕ) → Rose before now → Stood before now → ⊥
 not-both before now rose stood = omega (arith, rose, stood)
 
 -- what a write of all that is held came to
@@ -427,76 +426,6 @@ spills o shown p q r ConsoleWrite c x is s stops = subst (λ (z : Break). Goes o
 spills o shown p q r ConsoleRead c x is s stops = absurd s
 spills o shown p q r LogWrite c x is s stops = absurd s
 spills o shown p q r NoMemory c x is s stops = absurd s
-
--- ---- the console's source failed
-
--- a source that failed gave nothing
-abbrev pub Deaf : Stand → Stand → Type 0
-Deaf p q = Fails p.input q.input × (q ≡ record p { input = q.input })
-
-fails-unread : (old new : Intake) → Fails old new → Keeps (unread old) (unread new)
-fails-unread old new f = kept-unread old new (ap (λ (z : Progress). z.count) f.progress) f.bytes
-
-deaf-to : (o : Bool) (p r : Stand) (i : Intake) → Fails p.input i → Stopped o (record p { input = i }) r → Recorded false o p r
-deaf-to o p r i f s = record {
-  events = s.recorded.events;
-  bytes = s.recorded.bytes;
-  last = s.recorded.last;
-  are = s.recorded.are;
-  runs = s.recorded.runs;
-  stands = λ same. absurd cc;
-  log = s.recorded.log;
-  log_faults = tt;
-  console = s.recorded.console;
-  console_faults = tt;
-  read = kept-read false p.input.left i.left r.input.left s.recorded.events f.bytes s.recorded.read;
-  heard = kept-heard false o (unread p.input) (unread i) (unread r.input) s.recorded.events
-      (fails-unread p.input i f) s.recorded.heard;
-  input_faults = tt;
-  clock = s.recorded.clock;
-}
-
-deaf-logged : (o : Bool) (shown : Bool) (p r : Stand) (i : Intake) → Fails p.input i → IsLogged shown o (record p { input = i }) r
-    → IsLogged shown o p r
-deaf-logged o shown p r i f s = record {
-  events = s.events;
-  bytes = s.bytes;
-  last = s.last;
-  are = s.are;
-  runs = s.runs;
-  stopped = s.stopped;
-  log = s.log;
-  console = s.console;
-  all = s.all;
-  read = kept-read false p.input.left i.left r.input.left s.events f.bytes s.read;
-  heard = kept-heard false o (unread p.input) (unread i) (unread r.input) s.events
-      (fails-unread p.input i f) s.heard;
-  clock = s.clock;
-}
-
-deaf-rose : (o : Bool) (p r : Stand) (i : Intake) → Fails p.input i → Stopped o (record p { input = i }) r
-    → Rose p.input.faults r.input.faults
-deaf-rose o p r i f s = subst (λ (z : Intake). Rose p.input.faults z.faults) (sym s.input) f.faults
-
-deaf-goes : (o : Bool) (p r : Stand) (i : Intake) (x : Result (Unit {0}) Break) → Fails p.input i
-    → Stops true o (record p { input = i }) r x → Goes o p r (Err (or_memory ConsoleRead x))
-deaf-goes o p r i (Ok done) f stops = (
-  deaf-to o p r i f stops.0,
-  (deaf-rose o p r i f stops.0, λ stood. deaf-logged o true p r i f stops.1),
-)
-deaf-goes o p r i (Err LogWrite) f stops = (
-  deaf-to o p r i f stops.0,
-  (deaf-rose o p r i f stops.0, λ stood. absurd (not-both p.log.faults r.log.faults stops.1 stood)),
-)
-deaf-goes o p r i (Err NoMemory) f stops = (deaf-to o p r i f stops, tt)
-deaf-goes o p r i (Err ConsoleRead) f stops = absurd stops
-deaf-goes o p r i (Err ConsoleWrite) f stops = absurd stops
-
-pub deafens : (o : Bool) (p q r : Stand) (c : Break) (x : Result (Unit {0}) Break) → c ≡ or_memory ConsoleRead x
-    → Deaf p q → Stops true o q r x → Goes o p r (Err c)
-deafens o p q r c x is d stops =
-    subst (λ (z : Break). Goes o p r (Err z)) (sym is)
-    (deaf-goes o p r q.input x d.0 (subst (λ (z : Stand). Stops true o z r x) d.1 stops))
 
 -- ---- what the console's bytes leave
 

@@ -64,7 +64,8 @@ Counted true old new = new ≡ old
 Counted false old new = Unit {0}
 
 -- The machine took these events, and gave these console bytes away; the log has the events, the
--- console the bytes, and its input and the clock gave what the events have. Where it broke off, the log has a front of that, and the console too.
+-- console the bytes, and its input and the clock gave what the events have. Where it broke off, the
+-- log has a front of that, and the console too.
 pub record Recorded (whole owed : Bool) (p q : Stand) : Type 0 where
   pub events : List Event
   pub bytes : List ℕ

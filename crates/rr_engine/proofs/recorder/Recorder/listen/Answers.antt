@@ -5,7 +5,7 @@ use Rattle.io_workers.specs.Intake.{Gives, Ends, Fails, Nexts}
 use Rattle.io_workers.specs.declared.read_error.ReadError.{ReadError}
 use Rattle.rr_engine.specs.Stand.{stand}
 use Rattle.rr_engine.proofs.Owing.{owes_piece}
-use Rattle.rr_engine.proofs.Stopping.{deafens}
+use Rattle.rr_engine.proofs.Deafening.{deafens}
 use Rattle.rr_engine.proofs.Rounding.{listened, piece-goes, piece-spelled, piece-falls, piece-rests, over-goes, over-left, no-piece}
 use Rattle.rr_engine.proofs.recorder.Recorder.listen.Goals as goal
 
