@@ -1,6 +1,7 @@
 -- A replay whose words and images are those of its log's header, where no count of faults rises: a
--- log that is accepted whole gives the status of its END, and one with a first wrong event doesn't.
-use Rattle.std.proofs.Common.{◌≡◌, ◌<◌, ◌^◌, ◌+◌, ◌⊎◌, inl, inr, ℕ, List, [], ◌∷◌, ◌++◌, length, drop, refl, sym, ap, ◌∙◌, subst, arith, append_assoc}
+-- log that is accepted whole gives the status of its END, one with a first wrong event is refused,
+-- and one that is longer than what is read and not wrong so far is too long.
+use Rattle.std.proofs.Common.{◌≡◌, ◌<◌, ◌^◌, ◌+◌, ◌≤◌, ◌⊎◌, inl, inr, ℕ, List, [], ◌∷◌, ◌++◌, length, drop, refl, sym, ap, ◌∙◌, subst, arith, append_assoc}
 use Rattle.std.specs.Prelude.{Some, None, Result, Ok, Err, IfSome}
 use Rattle.std.specs.declared.option.Option.{Option}
 use Rattle.outside.specs.Causes.{Rose, Stood}
@@ -31,7 +32,8 @@ use Rattle.rrvm.specs.declared.outcome.Outcome.{Outcome}
 use Rattle.rrvm.specs.declared.outcome.Outcome.TheVariants.{Printed, GuestEnded, IdleForEver, BudgetReached, BadWord, WordsMissing, CannotOpen, CannotRead, ConsoleUnreadable, ConsoleFailed, LogFailed, LogUnreadable, BadFirmware, RecordingStopped, HeaderRefused, LogRefused, ImagesDiffer, LogTooLong, QuietFailed, NoMemory}
 use Rattle.rrvm.specs.Ledgers.{CountsStood}
 use Rattle.rrvm.specs.Outcomes.{status_of}
-use Rattle.rrvm.specs.Replays.{HasHeader, IsBadHeader, word_difference, IsBadImage, Starts, IsDifferent, IsReplayed, IsRefusedLog, IsReplayable, IsRefusable}
+use Rattle.rrvm.specs.Replays.{HasHeader, IsBadHeader, word_difference, IsBadImage, Starts, IsDifferent, IsReplayed, IsRefusedLog, IsReplayedToLimit, IsTooLong, IsUndecided, IsWrongLog, IsReplayable, IsRefusable, read_of}
+use Rattle.rrvm.proofs.LogLimits.{all-read}
 use Rattle.rrvm.specs.Answers.{Cause, ReplayCause, Explained, IfBoth, ending_status}
 
 -- ---- a log and a file have one header, one image and one verdict
@@ -118,6 +120,28 @@ ending-same a b m n reason code same e f =
     ended-as m n reason code (some-ended (ending m n) (ending reason code)
     (sym e ∙ ap (λ (z : State). z.control.ended) same ∙ f))
 
+-- ---- a log has one verdict
+
+-- a log that is accepted whole isn't wrong
+whole-not-wrong : (log : List ℕ) (start whole mid last : State) (refusal : Refusal)
+    → length log ≤ 2 ^ 40 → IsWhole (drop 98 log) start whole
+    → IsWrongLog log start refusal mid last → ⊥
+whole-not-wrong log start whole mid last refusal short w x =
+    whole-right (drop 98 log) 98 start mid last whole refusal
+    (subst (λ (z : List ℕ). IsFirstWrong (drop 98 z) 98 start refusal mid last) (all-read log short)
+    x.first) w
+
+-- a log that is too long and undecided isn't wrong
+long-not-wrong : (log : List ℕ) (start there mid last : State) (refusal : Refusal)
+    → 2 ^ 40 < length log → IsUndecided (drop 98 (read_of log)) start there
+    → IsWrongLog log start refusal mid last → ⊥
+long-not-wrong log start there mid last refusal long (inl whole) x =
+    whole-right (drop 98 (read_of log)) 98 start mid last there refusal x.first whole
+long-not-wrong log start there mid last refusal long (inr (cut, after, first, is)) x =
+    let same : refusal ≡ cut =
+    (one-wrong (drop 98 (read_of log)) 98 start mid last there after refusal cut x.first first).0 in
+    omega (arith, long, x.own_end (ap (λ (z : Refusal). z.found) same ∙ is))
+
 -- ---- what can't come to a replay that starts
 
 rose-stood : (before now : ℕ) → Rose before now → Stood before now → ⊥
@@ -169,7 +193,7 @@ Comes r log file new status =
     ((reason : ℕ) × (code : ℕ) × IsReplayed r log file new reason code
     × (status ≡ ending_status reason code))
     ⊎ (((refusal : Refusal) × IsRefusedLog r log file new refusal × (status ≡ 20))
-    ⊎ (((2 ^ 40 < length log) × (status ≡ 22)) ⊎ (status ≡ 30)))
+    ⊎ ((IsReplayedToLimit r log file new × (status ≡ 22)) ⊎ (status ≡ 30)))
 
 ended-comes : (r : Replaying) (log file : List ℕ) (old new : Ledger) (reason code : ℕ)
     → old.names r.log ≡ Some log → old.names r.bios ≡ Some file
@@ -225,7 +249,9 @@ comes r log file h f old new (ImagesDiffer which) told held s stood k =
     (λ xs. (z : Header) × HasHeader xs z × IsDifferent r z (old.names r.bios) which) told k in
     absurd (no-difference r log file (old.names r.bios) h other.0 f which held s other.1 other.2)
 comes r log file h f old new LogTooLong told held s stood k =
-    inr (inr (inl (if-told (old.names r.log) log (λ xs. 2 ^ 40 < length xs) told k, refl)))
+    let long = both-told (old.names r.log) (old.names r.bios) log file
+    (λ xs ys. IsReplayedToLimit r xs ys new) told held k in
+    inr (inr (inl (long, refl)))
 comes r log file h f old new QuietFailed told held s stood k = absurd k
 comes r log file h f old new NoMemory told held s stood k = inr (inr (inr refl))
 
@@ -254,24 +280,36 @@ replays-comes r log file new reason code status x (inr (inl (refusal, k, e))) =
     let start = same-start r log file x.header k.header x.firmware k.firmware x.starts k.starts in
     let whole : IsWhole (drop 98 log) (start_of k.header k.firmware) x.last =
     subst (λ (z : State). IsWhole (drop 98 log) z x.last) start x.whole in
-    absurd (whole-right (drop 98 log) 98 (start_of k.header k.firmware) k.mid k.last x.last refusal
-    k.wrong whole)
-replays-comes r log file new reason code status x (inr (inr (inl (long, e)))) =
-    absurd (omega (arith, long, x.short))
+    absurd (whole-not-wrong log (start_of k.header k.firmware) x.last k.mid k.last refusal x.short
+    whole k.wrong)
+replays-comes r log file new reason code status x (inr (inr (inl (k, e)))) =
+    absurd (omega (arith, k.long, x.short))
 replays-comes r log file new reason code status x (inr (inr (inr e))) = inr e
 
 refuses-comes : (r : Replaying) (log file : List ℕ) (new : Ledger) (status : ℕ)
-    → IsRefusable r log file → Comes r log file new status
-    → (status ≡ 20) ⊎ ((status ≡ 22) ⊎ (status ≡ 30))
+    → IsRefusable r log file → Comes r log file new status → (status ≡ 20) ⊎ (status ≡ 30)
 refuses-comes r log file new status x (inl (m, n, k, e)) =
     let start = same-start r log file k.header x.header k.firmware x.firmware k.starts x.starts in
     let whole : IsWhole (drop 98 log) (start_of x.header x.firmware) k.last =
     subst (λ (z : State). IsWhole (drop 98 log) z k.last) start k.whole in
-    absurd (whole-right (drop 98 log) 98 (start_of x.header x.firmware) x.mid x.last k.last
-    x.refusal x.wrong whole)
+    absurd (whole-not-wrong log (start_of x.header x.firmware) k.last x.mid x.last x.refusal k.short
+    whole x.wrong)
 refuses-comes r log file new status x (inr (inl (refusal, k, e))) = inl e
-refuses-comes r log file new status x (inr (inr (inl (long, e)))) = inr (inl e)
-refuses-comes r log file new status x (inr (inr (inr e))) = inr (inr e)
+refuses-comes r log file new status x (inr (inr (inl (k, e)))) =
+    let start = same-start r log file k.header x.header k.firmware x.firmware k.starts x.starts in
+    absurd (long-not-wrong log (start_of x.header x.firmware) k.last x.mid x.last x.refusal k.long
+    (subst (λ (z : State). IsUndecided (drop 98 (read_of log)) z k.last) start k.undecided) x.wrong)
+refuses-comes r log file new status x (inr (inr (inr e))) = inr e
+
+long-comes : (r : Replaying) (log file : List ℕ) (new : Ledger) (status : ℕ)
+    → IsTooLong r log file → Comes r log file new status → (status ≡ 22) ⊎ (status ≡ 30)
+long-comes r log file new status x (inl (m, n, k, e)) = absurd (omega (arith, x.long, k.short))
+long-comes r log file new status x (inr (inl (refusal, k, e))) =
+    let start = same-start r log file x.header k.header x.firmware k.firmware x.starts k.starts in
+    absurd (long-not-wrong log (start_of k.header k.firmware) x.last k.mid k.last refusal x.long
+    (subst (λ (z : State). IsUndecided (drop 98 (read_of log)) z x.last) start x.undecided) k.wrong)
+long-comes r log file new status x (inr (inr (inl (k, e)))) = inl e
+long-comes r log file new status x (inr (inr (inr e))) = inr e
 
 pub replays-told : (words : List (List ℕ)) (line : Reading) (old new : Ledger) (status : ℕ)
     → Explained words line old new status
@@ -289,8 +327,19 @@ pub refuses-told : (words : List (List ℕ)) (line : Reading) (old new : Ledger)
     → (r : Replaying) (log file : List ℕ) → line ≡ Replays r
     → old.names r.log ≡ Some log → old.names r.bios ≡ Some file
     → IsRefusable r log file → CountsStood old new
-    → (status ≡ 20) ⊎ ((status ≡ 22) ⊎ (status ≡ 30))
+    → (status ≡ 20) ⊎ (status ≡ 30)
 refuses-told words line old new status e r log file asks told held x stood =
     refuses-comes r log file new status x
+    (explained-comes words line old new status e r log file x.header x.firmware asks told held
+    x.starts stood)
+
+pub long-told : (words : List (List ℕ)) (line : Reading) (old new : Ledger) (status : ℕ)
+    → Explained words line old new status
+    → (r : Replaying) (log file : List ℕ) → line ≡ Replays r
+    → old.names r.log ≡ Some log → old.names r.bios ≡ Some file
+    → IsTooLong r log file → CountsStood old new
+    → (status ≡ 22) ⊎ (status ≡ 30)
+long-told words line old new status e r log file asks told held x stood =
+    long-comes r log file new status x
     (explained-comes words line old new status e r log file x.header x.firmware asks told held
     x.starts stood)

@@ -1,12 +1,12 @@
 -- The recording and the replay of a demonstration.
-use Rattle.std.proofs.Common.{◌≡◌, ◌≤◌, ◌<◌, ◌+◌, ◌^◌, ℕ, zero, suc, Bool, true, false, List, [], ◌∷◌, ◌++◌, length, take, drop, replicate, refl, sym, ap, ◌∙◌, subst, arith, append-nil, length-append, inl, inr, Global}
+use Rattle.std.proofs.Common.{◌≡◌, ◌≤◌, ◌+◌, ◌^◌, ℕ, zero, suc, Bool, true, false, List, [], ◌∷◌, ◌++◌, length, take, drop, replicate, refl, sym, ap, ◌∙◌, subst, arith, append-nil, length-append, inl, inr, Global}
 use Rattle.std.proofs.Math.Seq.{drop-append_seam}
 use Rattle.std.specs.Prelude.{Some, None, IfSome, IfOk, is_some, option_map, Result, Ok, Err, String, string_bytes, codes}
 use Rattle.std.specs.Fmt.{decimal}
 use Rattle.std.specs.declared.alloc.AllocError.{AllocError}
 use Rattle.std.specs.declared.option.Option.{Option}
 use Rattle.std.specs.List.{AllByRecursion}
-use Rattle.std.specs.Io.KnownBytes.{Consumes, Keeps, prepend_known}
+use Rattle.std.specs.Io.KnownBytes.{Consumes}
 use Rattle.outside.specs.Told.{Takes}
 use Rattle.elf_load.specs.declared.pieces.Loaded.{Loaded}
 use Rattle.elf_load.specs.Load.{loaded, LiesInRam}
@@ -35,7 +35,8 @@ use Rattle.rr_engine.specs.Runs.{start_of, Records}
 use Rattle.rr_engine.specs.declared.parts.RunEnd.TheVariants as run_end
 use Rattle.rr_engine.specs.declared.replaying.ReplayEnd.{ReplayEnd}
 use Rattle.rr_engine.specs.declared.replaying.ReplayEnd.TheVariants.{End, ConsoleWrite, LogRead, LogTooLong, Refused, NoMemory}
-use Rattle.rr_engine.specs.Replaying.{Played, played, PlaysToWrong, PlaysWhole, Replays}
+use Rattle.rr_engine.specs.Replaying.{Played, played, PlaysToWrong, PlaysToLimit, PlaysWhole, Replays, IsWrongAt, IsPastLimit}
+use Rattle.rr_engine.proofs.Limits.{all-within}
 use Rattle.rrvm.specs.Guests.{guest_bytes}
 use Rattle.rrvm.specs.Replays.{HasHeader}
 use Rattle.rrvm.specs.Demos.{demo_header, AreZero, Demonstration, demo_line, IsRecording, IsRecordedFrom, IsBehindHeader, HasEvents}
@@ -176,12 +177,6 @@ pub one-header : (log : List ℕ) (h k : Header) → HasHeader log h → HasHead
 one-header log h k a b =
     header-same h k (one_headers log (Ok h) (Ok k) (a.is, a.stands) (b.is, b.stands))
 
-held-few : (log held : List ℕ) (left : Option (List ℕ)) → Keeps (Some log) (prepend_known held left)
-    → length held ≤ length log
-held-few log held None k = absurd k
-held-few log held (Some xs) k =
-    omega (arith, ap length k, length-append held xs)
-
 -- a log that begins with a header has no fault there
 pub no-fault : (log : List ℕ) (new : Reader) (h : Header) (error : StreamError) → IsHeader h
     → log ≡ header_text h ++ drop 98 log → length log ≤ 2 ^ 32 → new.faults ≡ 0
@@ -194,14 +189,7 @@ no-fault log new h (stream.Parse parse.NoMemory) is starts short unfailed k = k
 no-fault log new h stream.Failed is starts short unfailed (failed, inl (before, same)) = absurd cc
 no-fault log new h stream.Failed is starts short unfailed (failed, inr now) =
     omega (arith, now.1, unfailed)
-no-fault log new h stream.TooLong is starts short unfailed k =
-    omega (
-      arith,
-      k.read,
-      k.stays.place,
-      held-few log new.unread.held new.left k.stays.bytes,
-      short,
-    )
+no-fault log new h stream.TooLong is starts short unfailed k = k
 no-fault log new h stream.NoMemory is starts short unfailed k = k
 
 -- ---- the replay
@@ -303,14 +291,22 @@ ahead-is : (o : Option (List ℕ)) (bytes : List ℕ) (P : List ℕ → Type 0) 
 ahead-is o bytes P told k = subst (λ (z : Option (List ℕ)). IfSome z P) told k
 
 not-long : (start : State) (h : Header) (log console : List ℕ) (p q : Played)
-    → Repeats start h log console p q
-    → IfSome (ahead p.log) (λ bytes. 2 ^ 40 < 98 + length bytes) → ⊥
+    → Repeats start h log console p q → PlaysToLimit start p q → ⊥
 not-long start h log console p q r k =
-    let long : 2 ^ 40 < 98 + length (drop 98 log) =
-    ahead-is (ahead p.log) (drop 98 log) (λ bytes. 2 ^ 40 < 98 + length bytes) r.bytes k in
+    let past = ahead-is (ahead p.log) (drop 98 log) (λ bytes. (rest : List ℕ)
+    × (bytes ≡ texts k.events ++ rest)
+    × IsPastLimit k.last (98 + length (texts k.events)) rest) r.bytes k.past in
     let text = ap length (recording-text start h log console r.is r.recording) in
     let whole = recording-long start h log console r.is r.recording in
-    omega (arith, long, text, whole, r.short)
+    omega (
+      arith,
+      past.2.0,
+      ap length past.1,
+      length-append (texts k.events) past.0,
+      text,
+      whole,
+      r.short,
+    )
 
 -- the log is accepted whole
 whole-log : (start : State) (h : Header) (log console : List ℕ) (p q : Played)
@@ -331,14 +327,24 @@ not-refused : (start : State) (h : Header) (log console : List ℕ) (p q : Playe
 not-refused start h log console p q refusal r k =
     let wrong = ahead-is (ahead p.log) (drop 98 log) (λ bytes. (rest : List ℕ) × (last : State)
     × (bytes ≡ texts k.events ++ rest)
-    × IsWrong k.mid rest refusal.found refusal.due last) r.bytes k.wrong in
+    × IsWrongAt k.mid refusal.offset rest refusal.found refusal.due last) r.bytes k.wrong in
+    let within : refusal.offset + length wrong.0 ≤ 2 ^ 40 = omega (
+      arith,
+      k.offset,
+      ap length wrong.2,
+      length-append (texts k.events) wrong.0,
+      ap length (recording-text start h log console r.is r.recording),
+      recording-long start h log console r.is r.recording,
+      r.short,
+    ) in
     let first : IsFirstWrong (drop 98 log) 98 start refusal k.mid wrong.1 = record {
       events = k.events;
       rest = wrong.0;
       accepted = record { parts = wrong.2; are = k.plays.are; runs = k.plays.runs };
       index = k.index;
       offset = k.offset;
-      wrong = wrong.3;
+      wrong = subst (λ (z : List ℕ). IsWrong k.mid z refusal.found refusal.due wrong.1)
+          (all-within refusal.offset wrong.0 within) wrong.3.0;
     } in
     whole-right (drop 98 log) 98 start k.mid wrong.1 r.recording.last refusal first
     (whole-log start h log console p q r)
@@ -354,7 +360,7 @@ ends-whole start h log console p q ConsoleWrite r k whole memory =
 ends-whole start h log console p q LogRead r k whole memory =
     omega (arith, k.1, r.log_faults, r.log_stays)
 ends-whole start h log console p q LogTooLong r k whole memory =
-    not-long start h log console p q r k.2
+    not-long start h log console p q r k
 ends-whole start h log console p q (Refused refusal) r k whole memory =
     not-refused start h log console p q refusal r k
 ends-whole start h log console p q NoMemory r k whole memory = memory refl

@@ -1,8 +1,11 @@
 -- A recording over devices that were just opened, and were given back.
-use Rattle.std.proofs.Common.{◌≡◌, ℕ, ◌^◌, true, false, List, [], take, refl, sym, subst, append-nil}
+use Rattle.std.proofs.Common.{◌≡◌, ℕ, ◌^◌, Bool, true, false, List, [], take, refl, sym, subst, arith, append-nil}
 use Rattle.std.specs.Prelude.{Some, None, IfSome}
 use Rattle.std.specs.declared.option.Option.{Option}
-use Rattle.outside.specs.Ledger.{Ledger}
+use Rattle.outside.specs.Causes.{Stood, both}
+use Rattle.outside.specs.Ledger.{Ledger, StartsEmpty}
+use Rattle.outside.specs.Roles.{at}
+use Rattle.outside.specs.declared.roles.Role.TheVariants.{LogOut}
 use Rattle.outside.specs.Told.{Takes}
 use Rattle.outside.proofs.ToldLemmas.{Takes-start, TakesFront-all, TakesFront-start}
 use Rattle.elf_load.specs.declared.pieces.Loaded.{Loaded}
@@ -14,12 +17,13 @@ use Rattle.rr_engine.specs.declared.parts.RunEnd.{RunEnd}
 use Rattle.rr_engine.specs.declared.parts.RunEnd.TheVariants.{End, ConsoleRead, ConsoleWrite, LogWrite, NoMemory}
 use Rattle.rr_engine.specs.Stand.{Devices}
 use Rattle.rr_engine.specs.Input.{typed, Hears}
-use Rattle.rr_engine.specs.Recording.{clock_values}
-use Rattle.rr_engine.specs.Runs.{start_of, Came, Whole, Front, Records}
+use Rattle.rr_engine.specs.Recording.{clock_values, Took}
+use Rattle.rr_engine.specs.Runs.{start_of, Came, Whole, Front, ToStop, Records}
 use Rattle.rr_engine.proofs.Hearing.{hears-weak, read-weak}
 use Rattle.rrvm.specs.declared.recording.RecordingEnd.{RecordingEnd}
-use Rattle.rrvm.specs.Recordings.{opened_with, returned, HasWhole, HasFront}
-use Rattle.rrvm.specs.Endings.{IfEnds, IsFresh, closed, recording_end_of}
+use Rattle.rrvm.specs.declared.recording.RecordingEnd.TheVariants as ends
+use Rattle.rrvm.specs.Recordings.{opened_with, returned, HasWhole, HasFront, HasStop}
+use Rattle.rrvm.specs.Endings.{IfEnds, IfStops, IsFresh, OpensNothing, closed, recording_end_of}
 
 whole-started : (start : State) (head : List ℕ) (l k : Ledger) (old new : Devices) (reason code : ℕ)
     → IsFresh l old → Whole start head old new reason code
@@ -124,3 +128,81 @@ recorded-front h f l k m old new end fresh r back =
     let front = records-front start (header_text h) old new end r in
     subst (λ (z : Ledger). HasFront h f l z) (sym back)
     (new.input, front-started start (header_text h) l k old new fresh front)
+
+-- ---- a run that the console or its input stopped
+
+took-started : (shown : Bool) (old new : Option (List ℕ)) (bytes : List ℕ) → StartsEmpty old
+    → Took shown old new bytes → Took shown (Some []) new bytes
+took-started true old new bytes fresh t = Takes-start old new bytes fresh t
+took-started false old new bytes fresh t = TakesFront-start old new bytes fresh t
+
+stop-started : (shown : Bool) (start : State) (head : List ℕ) (l k : Ledger) (old new : Devices)
+    → IsFresh l old → ToStop shown start head old new
+    → ToStop shown start head (opened_with l) (returned (closed k new) new.input)
+stop-started shown start head l k old new fresh s = record {
+  events = s.events;
+  last = s.last;
+  are = s.are;
+  runs = s.runs;
+  stopped = s.stopped;
+  log = Takes-start old.log new.log _ fresh.log s.log;
+  console = took-started shown old.console new.console _ fresh.console s.console;
+  input = subst (λ (o : Option (List ℕ)). Came false o new.input s.events) fresh.input s.input;
+  clock = record {
+    more = s.clock.more;
+    gave = Takes-start old.gave new.gave _ fresh.gave s.clock.gave;
+    all = λ same. absurd cc;
+  };
+}
+
+-- a role's count stood, so its sink has none
+own-stood : (a n : ℕ) → Stood a (both a n) → Stood 0 n
+own-stood a n stood = omega (arith, stood)
+
+log-stood : (l k : Ledger) (old new : Devices) → IsFresh l old → at k.faults LogOut ≡ at l.faults LogOut
+    → Stood (at l.faults LogOut) (at (closed k new).faults LogOut)
+    → Stood old.log_faults new.log_faults
+log-stood l k old new fresh same stood =
+    subst (λ (z : ℕ). Stood z new.log_faults) (sym fresh.log_faults)
+    (own-stood (at l.faults LogOut) new.log_faults
+    (subst (λ (z : ℕ). Stood (at l.faults LogOut) (both z new.log_faults)) same stood))
+
+records-stop : (h : Header) (f : Loaded) (l k : Ledger) (old new : Devices) (end : RunEnd)
+    → IsFresh l old → at k.faults LogOut ≡ at l.faults LogOut
+    → Records (start_of h f) (header_text h) old new end
+    → Stood (at l.faults LogOut) (at (closed k new).faults LogOut)
+    → IfStops (recording_end_of end) (λ shown. HasStop shown h f l (closed k new))
+records-stop h f l k old new (End reason code) fresh same r stood = tt
+records-stop h f l k old new ConsoleRead fresh same r stood = (
+  new.input,
+  stop-started true (start_of h f) (header_text h) l k old new fresh
+      (r.2 (log-stood l k old new fresh same stood)),
+)
+records-stop h f l k old new ConsoleWrite fresh same r stood = (
+  new.input,
+  stop-started false (start_of h f) (header_text h) l k old new fresh
+      (r.2 (log-stood l k old new fresh same stood)),
+)
+records-stop h f l k old new LogWrite fresh same r stood = tt
+records-stop h f l k old new NoMemory fresh same r stood = tt
+
+pub recorded-stop : (h : Header) (f : Loaded) (l k m : Ledger) (old new : Devices) (end : RunEnd)
+    (result : RecordingEnd) → IsFresh l old → at k.faults LogOut ≡ at l.faults LogOut
+    → Records (start_of h f) (header_text h) old new end → m ≡ closed k new
+    → result ≡ recording_end_of end → Stood (at l.faults LogOut) (at m.faults LogOut)
+    → IfStops result (λ shown. HasStop shown h f l m)
+recorded-stop h f l k m old new end result fresh same r back is stood =
+    subst (λ (z : RecordingEnd). IfStops z (λ shown. HasStop shown h f l m)) (sym is)
+    (subst (λ (z : Ledger). IfStops (recording_end_of end) (λ shown. HasStop shown h f l z))
+    (sym back)
+    (records-stop h f l k old new end fresh same r
+    (subst (λ (z : Ledger). Stood (at l.faults LogOut) (at z.faults LogOut)) back stood)))
+
+-- where nothing was opened, nothing was stopped
+pub opens-no-stop : (end : RecordingEnd) (P : Bool → Type 0) → OpensNothing end → IfStops end P
+opens-no-stop (ends.End reason code) P none = absurd none
+opens-no-stop ends.CannotOpenLog P none = tt
+opens-no-stop ends.ConsoleUnreadable P none = absurd none
+opens-no-stop ends.ConsoleFailed P none = absurd none
+opens-no-stop ends.LogFailed P none = absurd none
+opens-no-stop ends.NoMemory P none = tt

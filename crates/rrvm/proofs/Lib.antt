@@ -4,6 +4,7 @@ pub mod Logs
 pub mod FileHeld
 pub mod Ran
 pub mod Played
+pub mod LogLimits
 pub mod Replayed
 pub mod Telling
 pub mod Completing

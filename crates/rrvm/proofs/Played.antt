@@ -6,7 +6,7 @@ use Rattle.outside.specs.declared.world.OpenError.{OpenError}
 use Rattle.outside.specs.declared.world.OpenError.TheVariants as open_error
 use Rattle.outside.specs.Causes.{both, Rose}
 use Rattle.outside.specs.Told.{Takes}
-use Rattle.outside.specs.Ledger.{Ledger, StartsEmpty, opens, sink_back}
+use Rattle.outside.specs.Ledger.{Ledger, StartsEmpty, opens_sink, sink_back}
 use Rattle.outside.specs.Roles.{at}
 use Rattle.outside.specs.declared.roles.Role.TheVariants.{ConsoleOut}
 use Rattle.outside.proofs.ToldLemmas.{Takes-start, TakesFront-start}
@@ -70,17 +70,22 @@ replays-started start log log' a b n m ConsoleWrite fresh zero w = (
 )
 replays-started start log log' a b n m LogRead fresh zero w =
     (part-started start log log' a b n m fresh w.0, w.1, w.2 ∙ zero)
-replays-started start log log' a b n m LogTooLong fresh zero w = (
-  part-started start log log' a b n m fresh w.0,
-  record { log = w.1.log; console = w.1.console ∙ zero },
-  w.2,
-)
+replays-started start log log' a b n m LogTooLong fresh zero w = record {
+  events = w.events;
+  last = w.last;
+  plays = plays-started start log a n w.events w.last w.plays;
+  within = w.within;
+  past = w.past;
+  console = Takes-start a b _ fresh w.console;
+  unfaulted = record { log = w.unfaulted.log; console = w.unfaulted.console ∙ zero };
+}
 replays-started start log log' a b n m (Refused r) fresh zero w = record {
   events = w.events;
   mid = w.mid;
   plays = plays-started start log a n w.events w.mid w.plays;
   index = w.index;
   offset = w.offset;
+  within = w.within;
   wrong = w.wrong;
   console = Takes-start a b _ fresh w.console;
   unfaulted = record { log = w.unfaulted.log; console = w.unfaulted.console ∙ zero };
@@ -94,10 +99,10 @@ replays-started start log log' a b n m NoMemory fresh zero w = (
 pub shows-over : (start : State) (log log' : Reader) (old mid new : Ledger) (a b : Option (List ℕ))
     (n m : ℕ) (end : ReplayEnd)
     → StartsEmpty a → n ≡ 0 → Replays start (played log a n) (played log' b m) end
-    → mid ≡ opens old ConsoleOut → new ≡ sink_back mid ConsoleOut m b
+    → mid ≡ opens_sink old ConsoleOut None → new ≡ sink_back mid ConsoleOut m b
     → ShowsOver start log log' old new end
 shows-over start log log' old mid new a b n m end fresh zero w open_ last_ =
-    let back : new ≡ sink_back (opens old ConsoleOut) ConsoleOut m b =
+    let back : new ≡ sink_back (opens_sink old ConsoleOut None) ConsoleOut m b =
     last_ ∙ ap (λ (l : Ledger). sink_back l ConsoleOut m b) open_ in
     record {
       console = b;

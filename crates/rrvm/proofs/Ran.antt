@@ -3,7 +3,7 @@ use Rattle.std.proofs.Common.{◌≡◌, ◌≤◌, ℕ, Bool, true, false, refl
 use Rattle.std.specs.Prelude.{Some, None, IfSome, ◌==◌, if◌then◌else◌}
 use Rattle.std.specs.declared.option.Option.{Option}
 use Rattle.std.proofs.lemmas.Bool.{eqb-true, eqb-false}
-use Rattle.outside.specs.Causes.{Rose}
+use Rattle.outside.specs.Causes.{Rose, Stood}
 use Rattle.outside.specs.Ledger.{Ledger}
 use Rattle.outside.specs.Roles.{at}
 use Rattle.outside.specs.declared.roles.Role.TheVariants.{ConsoleIn, ConsoleOut, LogOut, Firmware as FirmwareRole}
@@ -12,7 +12,7 @@ use Rattle.elf_load.specs.declared.pieces.Loaded.{Loaded}
 use Rattle.event_log.specs.declared.header.Header.{Header}
 use Rattle.event_log.specs.HeaderFormat.{header_text}
 use Rattle.board.specs.Reset.{reset}
-use Rattle.rr_engine.specs.Runs.{start_of, Whole, Front, IsOwnReason, IsLogOf}
+use Rattle.rr_engine.specs.Runs.{start_of, Whole, Front, ToStop, IsOwnReason, IsLogOf}
 use Rattle.rrvm.specs.declared.firmware.Firmware.{Firmware}
 use Rattle.rrvm.specs.declared.firmware.TheConstants.{FIRMWARE_LIMIT}
 use Rattle.rrvm.specs.declared.recording.RecordingEnd.{RecordingEnd}
@@ -21,11 +21,11 @@ use Rattle.rrvm.specs.declared.outcome.Outcome.{Outcome}
 use Rattle.rrvm.specs.declared.outcome.Outcome.TheVariants as outcome
 use Rattle.rrvm.specs.Ledgers.{only}
 use Rattle.rrvm.specs.Firmwares.{IsFirmwareOf}
-use Rattle.rrvm.specs.Recordings.{returned, HasWhole, HasFront, IsRecorded, IsLogged, IsGood}
+use Rattle.rrvm.specs.Recordings.{returned, HasWhole, HasFront, HasStop, IsRecorded, IsRecordedToStop, IsLogged, IsGood}
 use Rattle.rrvm.specs.Headers.{header_of}
-use Rattle.rrvm.specs.Endings.{IfEnds}
+use Rattle.rrvm.specs.Endings.{IfEnds, IfStops}
 use Rattle.rrvm.specs.Asking.{recording_header, ending_outcome_of}
-use Rattle.rrvm.specs.Answers.{Cause}
+use Rattle.rrvm.specs.Answers.{Cause, LogsStop}
 use Rattle.rrvm.proofs.Logs.{told, is_log}
 
 -- a file that was held gave this firmware
@@ -74,6 +74,15 @@ whole-of h f old mid new reason code read whole = (
       (ap (λ (l : Ledger). l.input) read) whole.1,
 )
 
+stop-of : (shown : Bool) (h : Header) (f : Loaded) (old mid new : Ledger) → IsRead old mid
+    → HasStop shown h f mid new → HasStop shown h f old new
+stop-of shown h f old mid new read stop = (
+  stop.0,
+  subst (λ (o : Option (List ℕ)). ToStop shown (start_of h f) (header_text h)
+      (told (Some []) (Some []) o (Some [])) (returned new stop.0))
+      (ap (λ (l : Ledger). l.input) read) stop.1,
+)
+
 pub run-logged : (held : Option (List ℕ)) (r : Recording) (f : Firmware) (h : Header)
     (old mid new : Ledger) → Gives held r.ram_mib f
     → h ≡ recording_header r f.digest → IsRead old mid → HasFront h f.loaded mid new
@@ -101,6 +110,29 @@ run-recorded (Some file) r f h old mid new reason code gives same read whole = r
       (header-same r file f h same gives.0)
       (whole-of h f.loaded old mid new reason code read whole);
 }
+
+run-stopped : (held : Option (List ℕ)) (r : Recording) (f : Firmware) (h : Header) (shown : Bool)
+    (old mid new : Ledger) → Gives held r.ram_mib f → h ≡ recording_header r f.digest
+    → IsRead old mid → HasStop shown h f.loaded mid new
+    → IfSome held (λ file. IsRecordedToStop r file shown old new)
+run-stopped None r f h shown old mid new gives same read stop = tt
+run-stopped (Some file) r f h shown old mid new gives same read stop = record {
+  firmware = f.loaded;
+  loads = gives.0.loads;
+  fits = gives.1;
+  stop = subst (λ (z : Header). HasStop shown z f.loaded old new)
+      (header-same r file f h same gives.0) (stop-of shown h f.loaded old mid new read stop);
+}
+
+-- the log's count before the firmware's file was read was the same
+logs-stop : (r : Recording) (old mid new : Ledger) (f : Firmware) (h : Header) (shown : Bool)
+    → Gives (old.names r.bios) r.ram_mib f → h ≡ recording_header r f.digest → IsRead old mid
+    → (Stood (at mid.faults LogOut) (at new.faults LogOut) → HasStop shown h f.loaded mid new)
+    → LogsStop r shown old new
+logs-stop r old mid new f h shown gives same read stop = λ stood.
+    run-stopped (old.names r.bios) r f h shown old mid new gives same read
+    (stop (subst (λ (z : ℕ). Stood z (at new.faults LogOut))
+    (sym (ap (λ (l : Ledger). at l.faults LogOut) read)) stood))
 
 run-good : (held : Option (List ℕ)) (r : Recording) (f : Firmware) → Gives held r.ram_mib f
     → IfSome held (λ file. IsGood r file)
@@ -136,45 +168,51 @@ ending-cause : (r : Recording) (old mid new : Ledger) (f : Firmware) (h : Header
     (end : RecordingEnd) → Gives (old.names r.bios) r.ram_mib f
     → h ≡ recording_header r f.digest
     → IfEnds end (λ reason code. HasWhole h f.loaded mid new reason code)
+    → (Stood (at mid.faults LogOut) (at new.faults LogOut)
+    → IfStops end (λ shown. HasStop shown h f.loaded mid new))
     → (end ≡ ends.CannotOpenLog → Rose mid.opening_faults new.opening_faults)
     → (end ≡ ends.ConsoleUnreadable → Rose (at mid.faults ConsoleIn) (at new.faults ConsoleIn))
     → (end ≡ ends.ConsoleFailed → Rose (at mid.faults ConsoleOut) (at new.faults ConsoleOut))
     → (end ≡ ends.LogFailed → Rose (at mid.faults LogOut) (at new.faults LogOut))
     → mid.opening_faults ≡ old.opening_faults → IsRead old mid
     → Cause (Records r) old new (ending_outcome_of end)
-ending-cause r old mid new f h (ends.End reason code) gives same whole a i b c p read =
+ending-cause r old mid new f h (ends.End reason code) gives same whole stop a i b c p read =
     by-reason r old new reason code (reason == 0) (reason == 1) refl refl whole.1
     (run-recorded (old.names r.bios) r f h old mid new reason code gives same read whole.0)
-ending-cause r old mid new f h ends.CannotOpenLog gives same whole a i b c p read =
+ending-cause r old mid new f h ends.CannotOpenLog gives same whole stop a i b c p read =
     subst (λ (z : ℕ). Rose z new.opening_faults) p (a refl)
-ending-cause r old mid new f h ends.ConsoleUnreadable gives same whole a i b c p read = (
+ending-cause r old mid new f h ends.ConsoleUnreadable gives same whole stop a i b c p read = (
   subst (λ (z : ℕ). Rose z (at new.faults ConsoleIn))
       (ap (λ (l : Ledger). at l.faults ConsoleIn) read) (i refl),
   run-good (old.names r.bios) r f gives,
+  logs-stop r old mid new f h true gives same read stop,
 )
-ending-cause r old mid new f h ends.ConsoleFailed gives same whole a i b c p read = (
+ending-cause r old mid new f h ends.ConsoleFailed gives same whole stop a i b c p read = (
   subst (λ (z : ℕ). Rose z (at new.faults ConsoleOut))
       (ap (λ (l : Ledger). at l.faults ConsoleOut) read) (b refl),
   run-good (old.names r.bios) r f gives,
+  logs-stop r old mid new f h false gives same read stop,
 )
-ending-cause r old mid new f h ends.LogFailed gives same whole a i b c p read = (
+ending-cause r old mid new f h ends.LogFailed gives same whole stop a i b c p read = (
   subst (λ (z : ℕ). Rose z (at new.faults LogOut))
       (ap (λ (l : Ledger). at l.faults LogOut) read) (c refl),
   run-good (old.names r.bios) r f gives,
 )
-ending-cause r old mid new f h ends.NoMemory gives same whole a i b c p read = tt
+ending-cause r old mid new f h ends.NoMemory gives same whole stop a i b c p read = tt
 
 pub run-cause : (r : Recording) (old mid new : Ledger) (f : Firmware) (h : Header)
     (end : RecordingEnd) (result : Outcome)
     → result ≡ ending_outcome_of end → Gives (old.names r.bios) r.ram_mib f
     → h ≡ recording_header r f.digest
     → IfEnds end (λ reason code. HasWhole h f.loaded mid new reason code)
+    → (Stood (at mid.faults LogOut) (at new.faults LogOut)
+    → IfStops end (λ shown. HasStop shown h f.loaded mid new))
     → (end ≡ ends.CannotOpenLog → Rose mid.opening_faults new.opening_faults)
     → (end ≡ ends.ConsoleUnreadable → Rose (at mid.faults ConsoleIn) (at new.faults ConsoleIn))
     → (end ≡ ends.ConsoleFailed → Rose (at mid.faults ConsoleOut) (at new.faults ConsoleOut))
     → (end ≡ ends.LogFailed → Rose (at mid.faults LogOut) (at new.faults LogOut))
     → mid.opening_faults ≡ old.opening_faults → IsRead old mid
     → Cause (Records r) old new result
-run-cause r old mid new f h end result is gives same whole a i b c p read =
+run-cause r old mid new f h end result is gives same whole stop a i b c p read =
     subst (λ (z : Outcome). Cause (Records r) old new z) (sym is)
-    (ending-cause r old mid new f h end gives same whole a i b c p read)
+    (ending-cause r old mid new f h end gives same whole stop a i b c p read)

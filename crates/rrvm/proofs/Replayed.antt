@@ -1,8 +1,8 @@
 -- What a replay over a world comes to: by its log's header, its images, and how it ended.
-use Rattle.std.proofs.Common.{◌≡◌, ◌≤◌, ◌<◌, ◌+◌, ◌^◌, ℕ, Bool, true, false, List, [], ◌++◌, length, drop, refl, sym, ap, ◌∙◌, subst, arith, append-nil, length-append}
+use Rattle.std.proofs.Common.{◌≡◌, ◌≤◌, ◌<◌, ◌+◌, ◌^◌, ℕ, Bool, true, false, List, [], ◌++◌, length, drop, refl, sym, ap, ◌∙◌, subst, inl, inr, arith, append-nil, length-append}
 use Rattle.std.proofs.Math.Seq.{drop-append_seam}
 use Rattle.std.proofs.lemmas.Bool.{eqb-true, eqb-false}
-use Rattle.std.specs.Prelude.{Some, None, IfSome, is_some, ◌==◌, if◌then◌else◌}
+use Rattle.std.specs.Prelude.{Some, None, IfSome, IsSome, IsNone, ◌⊎◌, is_some, ◌==◌, if◌then◌else◌}
 use Rattle.std.specs.declared.option.Option.{Option}
 use Rattle.std.specs.Io.KnownBytes.{Consumes}
 use Rattle.outside.specs.Causes.{Rose, both}
@@ -17,25 +17,29 @@ use Rattle.elf_load.specs.declared.pieces.Loaded.{Loaded}
 use Rattle.event_log.specs.declared.event.Event.{Event}
 use Rattle.event_log.specs.declared.header.Header.{Header}
 use Rattle.event_log.specs.HeaderFormat.{IsHeader, header_text}
-use Rattle.event_log.specs.Spelling.{texts}
-use Rattle.event_log.specs.Reading.{Reader, ahead}
+use Rattle.event_log.specs.Grammar.{Stops, Cut}
+use Rattle.event_log.specs.Spelling.{event, texts}
+use Rattle.event_log.specs.Reading.{Reader, ahead, to_limit}
 use Rattle.event_log.proofs.HeaderLaws.{header_length, header_drop}
 use Rattle.board.specs.Reset.{reset}
+use Rattle.board.specs.Due.{due}
 use Rattle.board.specs.State.{State}
 use Rattle.log_order.proofs.EndKinds.{ending-kind}
 use Rattle.log_order.specs.declared.refusal.Refusal.{Refusal}
-use Rattle.log_order.specs.Order.{IsWrong}
+use Rattle.log_order.specs.declared.refusal.Found.TheVariants as found
+use Rattle.log_order.specs.Order.{Accepted, IsWrong}
 use Rattle.rr_engine.specs.Runs.{start_of}
 use Rattle.rr_engine.specs.declared.replaying.ReplayEnd.{ReplayEnd}
 use Rattle.rr_engine.specs.declared.replaying.ReplayEnd.TheVariants as replay_end
-use Rattle.rr_engine.specs.Replaying.{Played, played, Plays, PlaysWhole, PlaysToWrong, Replays}
+use Rattle.rr_engine.specs.Replaying.{Played, played, Plays, PlaysWhole, PlaysToWrong, PlaysToLimit, Replays, IsWrongAt, IsPastLimit}
 use Rattle.rrvm.specs.declared.difference.Difference.{Difference}
 use Rattle.rrvm.specs.declared.difference.Difference.TheVariants as difference
 use Rattle.rrvm.specs.declared.images.ImageFault.{ImageFault}
 use Rattle.rrvm.specs.declared.images.ImageFault.TheVariants as image
 use Rattle.rrvm.specs.declared.outcome.Outcome.{Outcome}
 use Rattle.rrvm.specs.declared.outcome.Outcome.TheVariants as outcome
-use Rattle.rrvm.specs.Replays.{HasHeader, is_another, word_difference, IsFirmware, IsBadImage, NamesNoDisk, Starts, IsDifferent, IsReplayed, IsRefusedLog, IsShown}
+use Rattle.rrvm.specs.Replays.{HasHeader, is_another, word_difference, IsFirmware, IsBadImage, NamesNoDisk, Starts, IsDifferent, IsReplayed, IsRefusedLog, IsReplayedToLimit, IsUndecided, IsShown, read_of}
+use Rattle.rrvm.proofs.LogLimits.{log-length, read-parts}
 use Rattle.rrvm.specs.Images.{IsImageFault}
 use Rattle.rrvm.specs.Asking.{image_outcome_of, replay_outcome_of}
 use Rattle.rrvm.specs.Playing.{ShowsOver}
@@ -157,6 +161,7 @@ replayed w log file h f p q l reason code t k none taken =
       header = h;
       firmware = f;
       starts = t.starts;
+      short = omega (arith, k.short, log-length log h t.starts.has, ap length whole);
       last = k.last;
       whole = record {
         events = k.events;
@@ -181,7 +186,10 @@ refused : (w : Replaying) (log file : List ℕ) (h : Header) (f : Loaded) (p q :
     → p.console ≡ Some [] → at l.last ConsoleOut ≡ q.console → IsRefusedLog w log file l r
 refused w log file h f p q l r t k none taken =
     let wrong = subst (λ (o : Option (List ℕ)). IfSome o (λ bytes. (rest : List ℕ) × (last : State)
-    × (bytes ≡ texts k.events ++ rest) × IsWrong k.mid rest r.found r.due last)) t.left k.wrong in
+    × (bytes ≡ texts k.events ++ rest) × IsWrongAt k.mid r.offset rest r.found r.due last)) t.left
+    k.wrong in
+    let rest = wrong.0 in
+    let at_end : 98 + length (texts k.events) ≤ 2 ^ 40 = omega (arith, k.within, k.offset) in
     record {
       header = h;
       firmware = f;
@@ -189,16 +197,99 @@ refused w log file h f p q l r t k none taken =
       mid = k.mid;
       last = wrong.1;
       wrong = record {
-        events = k.events;
-        rest = wrong.0;
-        accepted = record { parts = wrong.2; are = k.plays.are; runs = k.plays.runs };
-        index = k.index;
-        offset = k.offset;
-        wrong = wrong.3;
+        first = record {
+          events = k.events;
+          rest = to_limit (98 + length (texts k.events)) rest;
+          accepted = record {
+            parts = read-parts log (texts k.events) rest wrong.2 at_end;
+            are = k.plays.are;
+            runs = k.plays.runs;
+          };
+          index = k.index;
+          offset = k.offset;
+          wrong = subst (λ (n : ℕ). IsWrong k.mid (to_limit n rest) r.found r.due wrong.1) k.offset
+              wrong.3.0;
+        };
+        own_end = λ cut. omega (
+          arith,
+          wrong.3.1 cut,
+          k.offset,
+          log-length log h t.starts.has,
+          ap length wrong.2,
+          length-append (texts k.events) rest,
+        );
       };
       console = subst (λ (o : Option (List ℕ)). Takes (Some []) o k.mid.devices.uart.out)
           (sym taken)
           (subst (λ (o : Option (List ℕ)). Takes o q.console k.mid.devices.uart.out) none
+          k.console);
+    }
+
+-- the place where what is read cuts an event
+abbrev cut_at : List Event → State → Refusal
+cut_at events last = record {
+  index = length events;
+  offset = 98 + length (texts events);
+  due = due last;
+  found = found.Cut;
+}
+
+-- what is known of the log up to the limit
+undecided : (bytes rest : List ℕ) (events : List Event) (start last : State)
+    → Accepted bytes start events rest last
+    → (IsNone last.control.ended × Stops event rest Cut) ⊎ (IsSome last.control.ended × (rest ≡ []))
+    → IsUndecided bytes start last
+undecided bytes rest events start last a (inl (going, stops)) = inr (
+  cut_at events last,
+  last,
+  record {
+    events = events;
+    rest = rest;
+    accepted = a;
+    index = refl;
+    offset = refl;
+    wrong = (going, stops, refl, refl);
+  },
+  refl,
+)
+undecided bytes rest events start last a (inr (ended, none)) = inl (record {
+  events = events;
+  accepted = subst (λ (z : List ℕ). Accepted bytes start events z last) none a;
+  ended = ended;
+})
+
+-- the log is longer than what is read, and nothing of that is wrong
+too-long : (w : Replaying) (log file : List ℕ) (h : Header) (f : Loaded) (p q : Played) (l : Ledger)
+    → Told w log file h f (ahead p.log) → PlaysToLimit (start_of h f) p q
+    → p.console ≡ Some [] → at l.last ConsoleOut ≡ q.console → IsReplayedToLimit w log file l
+too-long w log file h f p q l t k none taken =
+    let past = subst (λ (o : Option (List ℕ)). IfSome o (λ bytes. (rest : List ℕ)
+    × (bytes ≡ texts k.events ++ rest)
+    × IsPastLimit k.last (98 + length (texts k.events)) rest)) t.left k.past in
+    let rest = past.0 in
+    record {
+      header = h;
+      firmware = f;
+      starts = t.starts;
+      long = omega (
+        arith,
+        past.2.0,
+        log-length log h t.starts.has,
+        ap length past.1,
+        length-append (texts k.events) rest,
+      );
+      last = k.last;
+      undecided = undecided (drop 98 (read_of log)) (to_limit (98 + length (texts k.events)) rest)
+          k.events (start_of h f) k.last
+          (record {
+            parts = read-parts log (texts k.events) rest past.1 k.within;
+            are = k.plays.are;
+            runs = k.plays.runs;
+          })
+          past.2.1;
+      console = subst (λ (o : Option (List ℕ)). Takes (Some []) o k.last.devices.uart.out)
+          (sym taken)
+          (subst (λ (o : Option (List ℕ)). Takes o q.console k.last.devices.uart.out) none
           k.console);
     }
 
@@ -238,8 +329,8 @@ end-shown w log file h f p q l replay_end.LogRead t k none taken =
     shown w log file h f p q.console l k.0.events k.0.last t k.0.plays
     (TakesFront-all p.console q.console _ k.0.console) none taken
 end-shown w log file h f p q l replay_end.LogTooLong t k none taken =
-    shown w log file h f p q.console l k.0.events k.0.last t k.0.plays
-    (TakesFront-all p.console q.console _ k.0.console) none taken
+    shown w log file h f p q.console l k.events k.last t k.plays
+    (TakesFront-all p.console q.console _ k.console) none taken
 end-shown w log file h f p q l (replay_end.Refused r) t k none taken =
     shown w log file h f p q.console l k.events k.mid t k.plays
     (TakesFront-all p.console q.console _ k.console) none taken
@@ -283,22 +374,6 @@ by-reason w o l m F reason code false false false e f g kind k =
     ) in
     coded w o (l.names w.bios) m reason 3 code 0 three (kind.1 (omega (arith, three))) k
 
--- a log with so many bytes after its header
-long-told : (log : List ℕ) (h : Header) (rest : Option (List ℕ)) → HasHeader log h
-    → rest ≡ Some (drop 98 log)
-    → IfSome rest (λ bytes. 2 ^ 40 < 98 + length bytes) → 2 ^ 40 < length log
-long-told log h rest has left k =
-    let more : 2 ^ 40 < 98 + length (drop 98 log) =
-    subst (λ (o : Option (List ℕ)). IfSome o (λ bytes. 2 ^ 40 < 98 + length bytes)) left k in
-    omega (
-      arith,
-      more,
-      header_length h has.is,
-      ap length has.stands,
-      length-append (header_text h)
-          (drop 98 log),
-    )
-
 going : (h : Header) (f : Loaded) → (start_of h f).control.ended ≡ None
 unfolding reset
 going h f = refl
@@ -336,8 +411,9 @@ played-cause w o h f log log' l mid m F replay_end.ConsoleWrite b s same failed 
 )
 played-cause w o h f log log' l mid m F replay_end.LogRead b s same failed = failed s.replays.1
 played-cause w o h f log log' l mid m F replay_end.LogTooLong b s same failed =
-    if-some o (λ bytes t. long-told bytes h (ahead log) t.0 t.1 s.replays.2)
-    (headed o (ahead log) h b.is b.passed)
+    if-both w o (l.names w.bios) h f (ahead log) b (λ bytes file told t.
+    too-long w bytes file h f (played log (Some []) 0) (played log' s.console s.faults) m t s.replays
+    refl (s.taken (λ e. absurd cc)))
 played-cause w o h f log log' l mid m F (replay_end.Refused r) b s same failed =
     let k = s.replays in
     if-both w o (l.names w.bios) h f (ahead log) b (λ bytes file told t.

@@ -1,5 +1,5 @@
 -- Saying how a run ended changes the messages alone, so its cause stays.
-use Rattle.std.proofs.Common.{◌≡◌, ◌<◌, ◌⊎◌, inl, inr, ℕ, List, [], refl, sym, ap, ◌∙◌, subst}
+use Rattle.std.proofs.Common.{◌≡◌, ◌<◌, ◌⊎◌, inl, inr, ℕ, Bool, true, false, List, [], refl, sym, ap, ◌∙◌, subst}
 use Rattle.std.specs.Prelude.{Some, None, IfSome}
 use Rattle.std.specs.declared.option.Option.{Option}
 use Rattle.outside.specs.Causes.{Rose, Stood}
@@ -11,12 +11,12 @@ use Rattle.command_line.specs.Words.{Recording, Replaying, Reading, Records, Rep
 use Rattle.log_order.specs.declared.refusal.Refusal.{Refusal}
 use Rattle.rrvm.specs.declared.outcome.Outcome.{Outcome}
 use Rattle.rrvm.specs.declared.outcome.Outcome.TheVariants.{Printed, GuestEnded, IdleForEver, BudgetReached, BadWord, WordsMissing, CannotOpen, CannotRead, ConsoleUnreadable, ConsoleFailed, LogFailed, LogUnreadable, BadFirmware, RecordingStopped, HeaderRefused, LogRefused, ImagesDiffer, LogTooLong, QuietFailed, NoMemory}
-use Rattle.rrvm.specs.Ledgers.{only, only_run}
+use Rattle.rrvm.specs.Ledgers.{only, only_run, Named}
 use Rattle.rrvm.specs.Outcomes.{status_of}
 use Rattle.rrvm.specs.Messages.{line_of}
-use Rattle.rrvm.specs.Recordings.{IsRecorded, IsLogged}
-use Rattle.rrvm.specs.Replays.{IsReplayed, IsRefusedLog, IsShown}
-use Rattle.rrvm.specs.Answers.{Cause, RecordCause, ReplayCause, DemoCause, PrintCause, Explained, IfBoth, IfRecords, IfReplays, IfDemonstrates, IsPrinted, IsPrintedFront}
+use Rattle.rrvm.specs.Recordings.{IsRecorded, IsRecordedToStop, IsLogged}
+use Rattle.rrvm.specs.Replays.{IsReplayed, IsRefusedLog, IsReplayedToLimit, IsShown}
+use Rattle.rrvm.specs.Answers.{Cause, RecordCause, ReplayCause, DemoCause, PrintCause, Explained, IfBoth, IfRecords, IfReplays, IfDemonstrates, IsPrinted, IsPrintedFront, log_name, SinksNamed}
 
 -- the ledger after the messages were said
 abbrev said : Ledger → Ledger → Ledger
@@ -29,6 +29,13 @@ recorded-stays None r old mid new reason code k = tt
 recorded-stays (Some file) r old mid new reason code k = record
     { firmware = k.firmware; loads = k.loads; fits = k.fits; whole = k.whole }
 
+stopped-stays : (held : Option (List ℕ)) (r : Recording) (shown : Bool) (old mid new : Ledger)
+    → IfSome held (λ file. IsRecordedToStop r file shown old mid)
+    → IfSome held (λ file. IsRecordedToStop r file shown old (said mid new))
+stopped-stays None r shown old mid new k = tt
+stopped-stays (Some file) r shown old mid new k = record
+    { firmware = k.firmware; loads = k.loads; fits = k.fits; stop = k.stop }
+
 replayed-stays : (o held : Option (List ℕ)) (r : Replaying) (mid new : Ledger) (reason code : ℕ)
     → IfBoth o held (λ log file. IsReplayed r log file mid reason code)
     → IfBoth o held (λ log file. IsReplayed r log file (said mid new) reason code)
@@ -38,6 +45,7 @@ replayed-stays (Some log) (Some file) r mid new reason code k = record {
   header = k.header;
   firmware = k.firmware;
   starts = k.starts;
+  short = k.short;
   last = k.last;
   whole = k.whole;
   ended = k.ended;
@@ -56,6 +64,21 @@ refused-stays (Some log) (Some file) r mid new refusal k = record {
   mid = k.mid;
   last = k.last;
   wrong = k.wrong;
+  console = k.console;
+}
+
+long-stays : (o held : Option (List ℕ)) (r : Replaying) (mid new : Ledger)
+    → IfBoth o held (λ log file. IsReplayedToLimit r log file mid)
+    → IfBoth o held (λ log file. IsReplayedToLimit r log file (said mid new))
+long-stays None held r mid new k = tt
+long-stays (Some log) None r mid new k = tt
+long-stays (Some log) (Some file) r mid new k = record {
+  header = k.header;
+  firmware = k.firmware;
+  starts = k.starts;
+  long = k.long;
+  last = k.last;
+  undecided = k.undecided;
   console = k.console;
 }
 
@@ -117,8 +140,10 @@ record-stays r old mid new (BadWord number) k = k
 record-stays r old mid new WordsMissing k = k
 record-stays r old mid new (CannotOpen role) k = k
 record-stays r old mid new CannotRead k = k
-record-stays r old mid new ConsoleUnreadable k = k
-record-stays r old mid new ConsoleFailed k = k
+record-stays r old mid new ConsoleUnreadable k =
+    (k.0, k.1, λ stood. stopped-stays (old.names r.bios) r true old mid new (k.2 stood))
+record-stays r old mid new ConsoleFailed k =
+    (k.0, k.1, λ stood. stopped-stays (old.names r.bios) r false old mid new (k.2 stood))
 record-stays r old mid new LogFailed k = k
 record-stays r old mid new LogUnreadable k = k
 record-stays r old mid new (BadFirmware rule) k = k
@@ -155,7 +180,7 @@ replay-stays r log old mid new F (HeaderRefused offset) k = k
 replay-stays r log old mid new F (LogRefused refusal) k = refused-stays log (old.names r.bios) r mid
     new refusal k
 replay-stays r log old mid new F (ImagesDiffer which) k = k
-replay-stays r log old mid new F LogTooLong k = k
+replay-stays r log old mid new F LogTooLong k = long-stays log (old.names r.bios) r mid new k
 replay-stays r log old mid new F QuietFailed k = k
 replay-stays r log old mid new F NoMemory k = k
 
@@ -288,3 +313,17 @@ told-printed line r old mid new e same prints more =
     subst (λ (z : Reading). IfDemonstrates z (λ n. IsPrintedFront n new)) e
     (subst (λ (z : Ledger). IfDemonstrates line (λ n. IsPrintedFront n z)) (sym same)
     (printed-stays line mid new told))
+
+pub told-sinks : (line r : Reading) (old mid new : Ledger) → line ≡ r → mid ≡ only_run old mid
+    → new ≡ said mid new → Named LogOut (log_name line) old mid → Named ConsoleOut None old mid
+    → Named Messages None mid new → SinksNamed r old new
+told-sinks line r old mid new e run same log console messages =
+    let opened : at mid.opened Messages ≡ at old.opened Messages = ap
+    (λ (l : Ledger). at l.opened Messages) run in
+    subst (λ (z : Reading). SinksNamed z old new) e
+    (subst (λ (z : Ledger). SinksNamed line old z) (sym same) (record {
+      log = log;
+      console = console;
+      messages = λ more. messages
+          (subst (λ (z : ℕ). z < at new.opened Messages) (sym opened) more);
+    }))

@@ -1,5 +1,5 @@
 -- What the top call answers, by its causes in the ledgers before and after.
-use Rattle.std.specs.Prelude.{◌≡◌, ◌⊎◌, ◌<◌, ◌^◌, ℕ, ⊤, List, [], length, ◌==◌, Some, None, IfSome, if◌then◌else◌}
+use Rattle.std.specs.Prelude.{◌≡◌, ◌⊎◌, ◌<◌, ℕ, Bool, true, false, ⊤, List, [], ◌==◌, Some, None, IfSome, if◌then◌else◌}
 use Rattle.std.specs.declared.option.Option.{Option}
 use Rattle.outside.specs.Causes.{Rose, Stood}
 use Rattle.outside.specs.Ledger.{Ledger}
@@ -11,11 +11,12 @@ use Rattle.event_log.specs.declared.header.Header.{Header}
 use Rattle.rrvm.specs.declared.outcome.Outcome.{Outcome}
 use Rattle.rrvm.specs.declared.outcome.Outcome.TheVariants.{Printed, GuestEnded, IdleForEver, BudgetReached, BadWord, WordsMissing, CannotOpen, CannotRead, ConsoleUnreadable, ConsoleFailed, LogFailed, LogUnreadable, BadFirmware, RecordingStopped, HeaderRefused, LogRefused, ImagesDiffer, LogTooLong, QuietFailed, NoMemory}
 use Rattle.rrvm.specs.declared.printing.TheConstants.{HELP, VERSION}
+use Rattle.rrvm.specs.Ledgers.{Named}
 use Rattle.rrvm.specs.Outcomes.{status_of}
 use Rattle.rrvm.specs.Demos.{Demonstration, demo_line}
 use Rattle.rrvm.specs.Firmwares.{IsBadFirmware}
-use Rattle.rrvm.specs.Recordings.{IsRecorded, IsGood}
-use Rattle.rrvm.specs.Replays.{HasHeader, IsBadHeader, word_difference, IsBadImage, IsStarted, IsReplayed, IsRefusedLog, IsDifferent}
+use Rattle.rrvm.specs.Recordings.{IsRecorded, IsRecordedToStop, IsGood}
+use Rattle.rrvm.specs.Replays.{HasHeader, IsBadHeader, word_difference, IsBadImage, IsStarted, IsReplayed, IsRefusedLog, IsReplayedToLimit, IsDifferent}
 use Rattle.rrvm.specs.Messages.{line_of}
 
 -- what holds where the words ask for a recording of a file that tells its bytes
@@ -56,6 +57,18 @@ abbrev pub IfDemonstrates : Reading → (ℕ → Type 0) → Type 0
 IfDemonstrates (Demonstrates n) P = P n
 IfDemonstrates other P = ⊤
 
+-- the name under which the words let a log be recorded
+abbrev pub log_name : Reading → Option (List ℕ)
+log_name (Records r) = Some r.log
+log_name other = None
+
+-- The log is recorded under the name that the words give; the console and the messages have none,
+-- and are the process's own.
+pub record SinksNamed (r : Reading) (old new : Ledger) : Type 0 where
+  pub log : Named LogOut (log_name r) old new
+  pub console : Named ConsoleOut None old new
+  pub messages : Named Messages None old new
+
 -- The machine's run ended by this reason and code: of a recording, whose log is whole, or of a
 -- replay, whose log was accepted whole.
 abbrev pub IsEnded : Reading → Ledger → Ledger → ℕ → ℕ → Type 0
@@ -64,6 +77,11 @@ IsEnded (Records r) old new reason code =
 IsEnded (Replays r) old new reason code =
     IfBoth (old.names r.log) (old.names r.bios) (λ log file. IsReplayed r log file new reason code)
 IsEnded other old new reason code = ⊥
+
+-- what the log has of a run that the console or its input stopped, where the log's own sink worked
+abbrev pub LogsStop : Recording → Bool → Ledger → Ledger → Type 0
+LogsStop r shown old new = Stood (at old.faults LogOut) (at new.faults LogOut)
+    → IfSome (old.names r.bios) (λ file. IsRecordedToStop r file shown old new)
 
 -- when a recording has an outcome
 abbrev pub RecordCause : Recording → Ledger → Ledger → Outcome → Type 0
@@ -74,10 +92,10 @@ RecordCause r old new (CannotOpen role) = Rose old.opening_faults new.opening_fa
 RecordCause r old new CannotRead = Rose (at old.faults Firmware) (at new.faults Firmware)
 RecordCause r old new ConsoleUnreadable =
     Rose (at old.faults ConsoleIn) (at new.faults ConsoleIn)
-    × IfSome (old.names r.bios) (λ file. IsGood r file)
+    × IfSome (old.names r.bios) (λ file. IsGood r file) × LogsStop r true old new
 RecordCause r old new ConsoleFailed =
     Rose (at old.faults ConsoleOut) (at new.faults ConsoleOut)
-    × IfSome (old.names r.bios) (λ file. IsGood r file)
+    × IfSome (old.names r.bios) (λ file. IsGood r file) × LogsStop r false old new
 RecordCause r old new LogFailed =
     Rose (at old.faults LogOut) (at new.faults LogOut)
     × IfSome (old.names r.bios) (λ file. IsGood r file)
@@ -114,7 +132,8 @@ ReplayCause r log old new failed (LogRefused refusal) =
 ReplayCause r log old new failed (ImagesDiffer which) =
     IfSome log (λ bytes. (h : Header) × HasHeader bytes h
     × IsDifferent r h (old.names r.bios) which)
-ReplayCause r log old new failed LogTooLong = IfSome log (λ bytes. 2 ^ 40 < length bytes)
+ReplayCause r log old new failed LogTooLong =
+    IfBoth log (old.names r.bios) (λ bytes file. IsReplayedToLimit r bytes file new)
 ReplayCause r log old new failed NoMemory = ⊤
 ReplayCause r log old new failed other = ⊥
 

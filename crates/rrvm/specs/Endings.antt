@@ -1,5 +1,5 @@
 -- How a recording over the devices of a world ends.
-use Rattle.std.specs.Prelude.{◌≡◌, ℕ}
+use Rattle.std.specs.Prelude.{◌≡◌, ℕ, Bool, true, false}
 use Rattle.outside.specs.Ledger.{Ledger, StartsEmpty, source_back, sink_back, clock_back}
 use Rattle.outside.specs.Roles.{at}
 use Rattle.outside.specs.declared.roles.Role.TheVariants.{ConsoleIn, ConsoleOut, LogOut}
@@ -14,6 +14,12 @@ use Rattle.rrvm.specs.declared.recording.RecordingEnd.TheVariants.{End, CannotOp
 abbrev pub IfEnds : RecordingEnd → (ℕ → ℕ → Type 0) → Type 0
 IfEnds (End reason code) P = P reason code × IsOwnReason reason code
 IfEnds other P = Unit {0}
+
+-- what holds of whether the console was shown all, where it or its input stopped the run
+abbrev pub IfStops : RecordingEnd → (Bool → Type 0) → Type 0
+IfStops ConsoleUnreadable P = P true
+IfStops ConsoleFailed P = P false
+IfStops other P = Unit {0}
 
 -- the devices of a recording that were just opened over what the ledger tells
 pub record IsFresh (l : Ledger) (d : Devices) : Type 0 where

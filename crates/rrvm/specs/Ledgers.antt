@@ -1,5 +1,6 @@
 -- What a run may change of a world, role by role.
-use Rattle.std.specs.Prelude.{◌≡◌, ◌+◌, ◌-◌, ◌<◌, ◌≤◌, ◌^◌}
+use Rattle.std.specs.Prelude.{◌≡◌, ◌+◌, ◌-◌, ◌<◌, ◌≤◌, ◌^◌, ℕ, List}
+use Rattle.std.specs.declared.option.Option.{Option}
 use Rattle.outside.specs.Causes.{Stood}
 use Rattle.outside.specs.Ledger.{Ledger}
 use Rattle.outside.specs.Roles.{at, put}
@@ -12,6 +13,7 @@ only role old new = record old {
   faults = put old.faults role (at new.faults role);
   opened = put old.opened role (at new.opened role);
   returned = put old.returned role (at new.returned role);
+  sinks = put old.sinks role (at new.sinks role);
   last = put old.last role (at new.last role);
 }
 
@@ -32,6 +34,10 @@ only_recording old new =
 -- the old ledger with what a run may change
 abbrev pub only_run : Ledger → Ledger → Ledger
 only_run old new = only LogIn (only_recording (only Firmware old new) new) new
+
+-- where a sink of the role was opened, the last was opened under that name
+abbrev pub Named : Role → Option (List ℕ) → Ledger → Ledger → Type 0
+Named role name old new = at old.opened role < at new.opened role → at new.sinks role ≡ name
 
 -- what was opened of a role was given back, and at most one was
 pub record Balanced (role : Role) (old new : Ledger) : Type 0 where

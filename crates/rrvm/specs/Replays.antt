@@ -1,5 +1,5 @@
 -- What the words ask to replay, and what a replay of it gives.
-use Rattle.std.specs.Prelude.{◌≡◌, ◌≢◌, ◌≤◌, ◌<◌, ◌⊎◌, ◌==◌, ◌^◌, ℕ, Bool, false, not, List, [], ◌++◌, length, drop, Some, None, IfSome, Ok, Err, if◌then◌else◌}
+use Rattle.std.specs.Prelude.{◌≡◌, ◌≢◌, ◌≤◌, ◌<◌, ◌⊎◌, ◌==◌, ◌^◌, ℕ, Bool, false, not, List, [], ◌++◌, length, take, drop, Some, None, IfSome, Ok, Err, if◌then◌else◌}
 use Rattle.std.specs.declared.option.Option.{Option}
 use Rattle.sha2.specs.Sha256.{sha256}
 use Rattle.outside.specs.Ledger.{Ledger}
@@ -18,6 +18,7 @@ use Rattle.event_log.specs.Grammar.{Stops, Bad}
 use Rattle.event_log.specs.HeaderFormat.{header as header_format, header_text, IsHeader}
 use Rattle.board.specs.State.{State}
 use Rattle.log_order.specs.declared.refusal.Refusal.{Refusal}
+use Rattle.log_order.specs.declared.refusal.Found.TheVariants as found
 use Rattle.log_order.specs.Order.{Accepted, IsFirstWrong, IsWhole}
 use Rattle.rr_engine.specs.Runs.{start_of}
 use Rattle.rrvm.specs.declared.difference.Difference.{Difference}
@@ -73,6 +74,25 @@ pub record Starts (r : Replaying) (log file : List ℕ) (h : Header) (firmware :
   pub image : IsFirmware h file firmware
   pub disk : NamesNoDisk h
 
+-- what of a log is read: its first 2^40 bytes
+abbrev pub read_of : List ℕ → List ℕ
+read_of log = take (2 ^ 40) log
+
+-- The first wrong place of the log, which stands among the bytes that are read. An event is cut by
+-- the log's own end, not by that of what is read.
+pub record IsWrongLog (log : List ℕ) (start : State) (refusal : Refusal) (mid last : State)
+    : Type 0 where
+  pub first : IsFirstWrong (drop 98 (read_of log)) 98 start refusal mid last
+  pub own_end : refusal.found ≡ found.Cut → length log ≤ 2 ^ 40
+
+-- nothing that is read is wrong: it is accepted whole, or its end cuts an event; the part that is
+-- accepted leads here
+abbrev pub IsUndecided : List ℕ → State → State → Type 0
+IsUndecided read start last =
+    IsWhole read start last
+    ⊎ ((refusal : Refusal) × (after : State) × IsFirstWrong read 98 start refusal last after
+    × (refusal.found ≡ found.Cut))
+
 -- the log is accepted whole, its END has this reason and code, and the console has the machine's
 -- bytes
 pub record IsReplayed (r : Replaying) (log file : List ℕ) (l : Ledger) (reason code : ℕ)
@@ -80,6 +100,7 @@ pub record IsReplayed (r : Replaying) (log file : List ℕ) (l : Ledger) (reason
   pub header : Header
   pub firmware : Loaded
   pub starts : Starts r log file header firmware
+  pub short : length log ≤ 2 ^ 40
   pub last : State
   pub whole : IsWhole (drop 98 log) (start_of header firmware) last
   pub ended : last.control.ended ≡ Some (record { reason = reason; code = code })
@@ -93,8 +114,19 @@ pub record IsRefusedLog (r : Replaying) (log file : List ℕ) (l : Ledger) (refu
   pub starts : Starts r log file header firmware
   pub mid : State
   pub last : State
-  pub wrong : IsFirstWrong (drop 98 log) 98 (start_of header firmware) refusal mid last
+  pub wrong : IsWrongLog log (start_of header firmware) refusal mid last
   pub console : Takes (Some []) (at l.last ConsoleOut) mid.devices.uart.out
+
+-- the log is longer than what is read, of which nothing is wrong, and the console has the bytes of
+-- the accepted part
+pub record IsReplayedToLimit (r : Replaying) (log file : List ℕ) (l : Ledger) : Type 0 where
+  pub header : Header
+  pub firmware : Loaded
+  pub starts : Starts r log file header firmware
+  pub long : 2 ^ 40 < length log
+  pub last : State
+  pub undecided : IsUndecided (drop 98 (read_of log)) (start_of header firmware) last
+  pub console : Takes (Some []) (at l.last ConsoleOut) last.devices.uart.out
 
 -- the console has a front of the bytes of a part of the log that is accepted
 pub record IsShown (r : Replaying) (log file : List ℕ) (l : Ledger) : Type 0 where
@@ -145,4 +177,13 @@ pub record IsRefusable (r : Replaying) (log file : List ℕ) : Type 0 where
   pub refusal : Refusal
   pub mid : State
   pub last : State
-  pub wrong : IsFirstWrong (drop 98 log) 98 (start_of header firmware) refusal mid last
+  pub wrong : IsWrongLog log (start_of header firmware) refusal mid last
+
+-- The same, where the log is longer than what is read, and nothing that is read is wrong.
+pub record IsTooLong (r : Replaying) (log file : List ℕ) : Type 0 where
+  pub header : Header
+  pub firmware : Loaded
+  pub starts : Starts r log file header firmware
+  pub long : 2 ^ 40 < length log
+  pub last : State
+  pub undecided : IsUndecided (drop 98 (read_of log)) (start_of header firmware) last

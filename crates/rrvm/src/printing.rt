@@ -1,11 +1,11 @@
 //! The texts that are printed alone.
 
-ghost use Rattle.std.specs.Prelude.{◌≡◌, ◌<◌, Some, [], OnOk, IsErrOf};
+ghost use Rattle.std.specs.Prelude.{◌≡◌, ◌<◌, Some, None, [], OnOk, IsErrOf};
 ghost use Rattle.outside.specs.Causes.{Rose};
 ghost use Rattle.outside.specs.Told.{Takes, TakesFront};
 ghost use Rattle.outside.specs.Roles.{at};
 ghost use Rattle.outside.specs.declared.roles.Role.TheVariants.{ConsoleOut};
-ghost use Rattle.rrvm.specs.Ledgers.{only, Balanced};
+ghost use Rattle.rrvm.specs.Ledgers.{only, Balanced, Named};
 
 use outside::{Careful, Role, World};
 
@@ -70,6 +70,7 @@ pub(crate) fn print<W: World>(text: &str, world: &mut W) -> Result<(), PrintFaul
     ensures failed { IsErrOf result PrintFault.Failed
         → Rose (at (W.ledger world.old).faults ConsoleOut)
         (at (W.ledger world.new).faults ConsoleOut) }
+    ensures named { Named ConsoleOut None (W.ledger world.old) (W.ledger world.new) }
     ensures balanced { Balanced ConsoleOut (W.ledger world.old) (W.ledger world.new) }
     ensures rest { W.ledger world.new ≡ only ConsoleOut (W.ledger world.old) (W.ledger world.new) }
 {

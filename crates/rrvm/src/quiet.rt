@@ -1,12 +1,12 @@
 //! The commands that need no threads.
 
-ghost use Rattle.std.specs.Prelude.{◌≡◌, ◌<◌, ◌≤◌, ◌⊎◌, Some, []};
+ghost use Rattle.std.specs.Prelude.{◌≡◌, ◌<◌, ◌≤◌, ◌⊎◌, Some, None, []};
 ghost use Rattle.outside.specs.Causes.{Rose};
 ghost use Rattle.outside.specs.Told.{Takes, TakesFront};
 ghost use Rattle.outside.specs.Roles.{at};
 ghost use Rattle.outside.specs.declared.roles.Role.TheVariants.{ConsoleOut};
 ghost use Rattle.command_line.specs.Words.{Demonstrates};
-ghost use Rattle.rrvm.specs.Ledgers.{only, Balanced};
+ghost use Rattle.rrvm.specs.Ledgers.{only, Balanced, Named};
 ghost use Rattle.rrvm.specs.Answers.{IsPrinted, IsPrintedFront};
 
 use crate::demo::demo_text;
@@ -29,6 +29,7 @@ fn print_line<W: World>(line: &str, world: &mut W) -> Outcome
     ensures front { at (W.ledger world.old).opened ConsoleOut
         < at (W.ledger world.new).opened ConsoleOut
         → TakesFront (Some []) (at (W.ledger world.new).last ConsoleOut) line.now }
+    ensures named { Named ConsoleOut None (W.ledger world.old) (W.ledger world.new) }
     ensures balanced { Balanced ConsoleOut (W.ledger world.old) (W.ledger world.new) }
     ensures rest { W.ledger world.new ≡ only ConsoleOut (W.ledger world.old) (W.ledger world.new) }
 {
@@ -58,6 +59,7 @@ pub(crate) fn demonstrate<W: World, L: Ledger>(
     ensures front { at (W.ledger world.old).opened ConsoleOut
         < at (W.ledger world.new).opened ConsoleOut
         → IsPrintedFront n (W.ledger world.new) }
+    ensures named { Named ConsoleOut None (W.ledger world.old) (W.ledger world.new) }
     ensures balanced { Balanced ConsoleOut (W.ledger world.old) (W.ledger world.new) }
     ensures rest { W.ledger world.new ≡ only ConsoleOut (W.ledger world.old) (W.ledger world.new) }
 {

@@ -1,15 +1,15 @@
 //! A recording over the devices of a world.
 
-ghost use Rattle.std.specs.Prelude.{◌≡◌, ◌<◌, ◌≤◌, ℕ, Some, [], IfOk, IfErr, OnOk, OnErr};
-ghost use Rattle.outside.specs.Causes.{Rose};
-ghost use Rattle.outside.specs.Ledger.{opens, opens_clock};
+ghost use Rattle.std.specs.Prelude.{◌≡◌, ◌<◌, ◌≤◌, ℕ, Some, None, [], IfOk, IfErr, OnOk, OnErr};
+ghost use Rattle.outside.specs.Causes.{Rose, Stood};
+ghost use Rattle.outside.specs.Ledger.{opens, opens_sink, opens_clock};
 ghost use Rattle.outside.specs.Roles.{at};
 ghost use Rattle.outside.specs.declared.roles.Role.TheVariants.{ConsoleIn, ConsoleOut, LogOut};
 ghost use Rattle.event_log.specs.HeaderFormat.{IsHeader, header_text};
 ghost use Rattle.elf_load.specs.Load.{LiesInRam};
-ghost use Rattle.rrvm.specs.Ledgers.{only_recording, Balanced, ClocksBalanced};
-ghost use Rattle.rrvm.specs.Recordings.{HasFront, HasWhole};
-ghost use Rattle.rrvm.specs.Endings.{IfEnds, IsFresh, OpensNothing, RecordingKept, closed, recording_end_of};
+ghost use Rattle.rrvm.specs.Ledgers.{only_recording, Balanced, ClocksBalanced, Named};
+ghost use Rattle.rrvm.specs.Recordings.{HasFront, HasWhole, HasStop};
+ghost use Rattle.rrvm.specs.Endings.{IfEnds, IfStops, IsFresh, OpensNothing, RecordingKept, closed, recording_end_of};
 
 use board::Steps;
 use elf_load::Loaded;
@@ -37,7 +37,8 @@ fn open<W: World>(
     world: &mut W,
 ) -> Result<RecordParts<W::Source, W::Sink, W::Clock>, RecordingEnd>
     ensures opened { OnOk result (W.ledger world.new
-        ≡ opens (opens_clock (opens (opens (W.ledger world.old) ConsoleIn) ConsoleOut)) LogOut) }
+        ≡ opens_sink (opens_clock (opens_sink (opens (W.ledger world.old) ConsoleIn) ConsoleOut None))
+        LogOut (Some log.now)) }
     ensures fresh { IfOk result (IsFresh (W.ledger world.old)) }
 
     ensures fault { IfErr result OpensNothing }
@@ -45,6 +46,8 @@ fn open<W: World>(
         → Rose (W.ledger world.old).opening_faults (W.ledger world.new).opening_faults }
     ensures log_closed { OnErr result (at (W.ledger world.new).opened LogOut
         ≡ at (W.ledger world.old).opened LogOut) }
+    ensures named_console { OnErr result
+        (Named ConsoleOut None (W.ledger world.old) (W.ledger world.new)) }
     ensures balanced_log { OnErr result
         (Balanced LogOut (W.ledger world.old) (W.ledger world.new)) }
     ensures balanced_input { OnErr result
@@ -128,6 +131,11 @@ pub(crate) fn record<W: World, L: Ledger>(
     ensures front { at (W.ledger world.old).opened LogOut < at (W.ledger world.new).opened LogOut
         → HasFront header.now firmware.now (W.ledger world.old) (W.ledger world.new) }
 
+    ensures stopped { Stood (at (W.ledger world.old).faults LogOut)
+        (at (W.ledger world.new).faults LogOut)
+        → IfStops result (λ shown. HasStop shown header.now firmware.now
+        (W.ledger world.old) (W.ledger world.new)) }
+
     ensures unopened { result ≡ RecordingEnd.CannotOpenLog
         → Rose (W.ledger world.old).opening_faults (W.ledger world.new).opening_faults }
     ensures input_fault { result ≡ RecordingEnd.ConsoleUnreadable
@@ -139,6 +147,8 @@ pub(crate) fn record<W: World, L: Ledger>(
     ensures log_fault { result ≡ RecordingEnd.LogFailed
         → Rose (at (W.ledger world.old).faults LogOut) (at (W.ledger world.new).faults LogOut) }
 
+    ensures named_log { Named LogOut (Some log.now) (W.ledger world.old) (W.ledger world.new) }
+    ensures named_console { Named ConsoleOut None (W.ledger world.old) (W.ledger world.new) }
     ensures balanced_log { Balanced LogOut (W.ledger world.old) (W.ledger world.new) }
     ensures balanced_input { Balanced ConsoleIn (W.ledger world.old) (W.ledger world.new) }
     ensures balanced_console { Balanced ConsoleOut (W.ledger world.old) (W.ledger world.new) }

@@ -1,6 +1,6 @@
 //! The top call: what the words ask for is done over a world, and the messages say how it ended.
 
-ghost use Rattle.std.specs.Prelude.{◌≡◌, ◌≢◌, ◌<◌, ◌≤◌, ◌⊎◌, ℕ, List, [], Some, Ok, OnOk, OnErr, length, map, string_bytes};
+ghost use Rattle.std.specs.Prelude.{◌≡◌, ◌≢◌, ◌<◌, ◌≤◌, ◌⊎◌, ℕ, List, [], Some, None, Ok, OnOk, OnErr, length, map, string_bytes};
 ghost use Rattle.outside.specs.Causes.{Rose, Stood};
 ghost use Rattle.outside.specs.Told.{Takes, TakesFront};
 ghost use Rattle.outside.specs.Roles.{at};
@@ -10,12 +10,12 @@ ghost use Rattle.command_line.specs.Words.{Recording, Replaying, Records, Replay
 ghost use Rattle.command_line.specs.Line.{seen_line, line_in, quiet_in};
 ghost use Rattle.elf_load.specs.declared.error.LoadError.{LoadError};
 ghost use Rattle.elf_load.specs.declared.error.LoadError.TheVariants as load_error;
-ghost use Rattle.rrvm.specs.Ledgers.{only, only_run, Balanced, ClocksBalanced, NoDisk, CountsKept, CountsStood};
+ghost use Rattle.rrvm.specs.Ledgers.{only, only_run, Balanced, ClocksBalanced, NoDisk, CountsKept, CountsStood, Named};
 ghost use Rattle.rrvm.specs.Messages.{line_of};
 ghost use Rattle.rrvm.specs.Firmwares.{IsBadFirmware};
 ghost use Rattle.rrvm.specs.Recordings.{IsGood, IsLogged};
-ghost use Rattle.rrvm.specs.Replays.{IsShown, IsReplayable, IsRefusable};
-ghost use Rattle.rrvm.specs.Answers.{Cause, Explained, IfRecords, IfReplays, IfDemonstrates, IfRan, IsEnded, IsPrinted, IsPrintedFront, IsWordFault, HasRun, ending_status};
+ghost use Rattle.rrvm.specs.Replays.{IsShown, IsReplayable, IsRefusable, IsTooLong};
+ghost use Rattle.rrvm.specs.Answers.{Cause, Explained, IfRecords, IfReplays, IfDemonstrates, IfRan, IsEnded, IsPrinted, IsPrintedFront, IsWordFault, HasRun, ending_status, log_name, SinksNamed};
 
 use crate::message::message;
 use crate::outcome::Outcome;
@@ -48,6 +48,7 @@ fn say<W: World>(text: &str, world: &mut W) -> Result<(), AllocError>
     ensures whole { OnOk result
         (Stood (at (W.ledger world.old).faults Messages) (at (W.ledger world.new).faults Messages)
         → Takes (Some []) (at (W.ledger world.new).last Messages) text.now) }
+    ensures named { Named Messages None (W.ledger world.old) (W.ledger world.new) }
     ensures balanced { Balanced Messages (W.ledger world.old) (W.ledger world.new) }
     ensures rest { W.ledger world.new ≡ only Messages (W.ledger world.old) (W.ledger world.new) }
 {
@@ -76,6 +77,7 @@ fn tell<W: World>(
         → Stood (at (W.ledger world.old).faults Messages) (at (W.ledger world.new).faults Messages)
         → Takes (Some []) (at (W.ledger world.new).last Messages)
         (line_of (map string_bytes words.now) (seen_line line.now) result) }
+    ensures named { Named Messages None (W.ledger world.old) (W.ledger world.new) }
     ensures balanced { Balanced Messages (W.ledger world.old) (W.ledger world.new) }
     ensures rest { W.ledger world.new ≡ only Messages (W.ledger world.old) (W.ledger world.new) }
 {
@@ -97,6 +99,7 @@ fn print_alone<W: World>(text: &str, world: &mut W) -> Outcome
         (at (W.ledger world.new).faults ConsoleOut) }
     ensures which { (result ≡ Outcome.Printed)
         ⊎ ((result ≡ Outcome.ConsoleFailed) ⊎ (result ≡ Outcome.NoMemory)) }
+    ensures named { Named ConsoleOut None (W.ledger world.old) (W.ledger world.new) }
     ensures balanced { Balanced ConsoleOut (W.ledger world.old) (W.ledger world.new) }
     ensures rest { W.ledger world.new ≡ only ConsoleOut (W.ledger world.old) (W.ledger world.new) }
 {
@@ -128,6 +131,9 @@ fn answer<W: World, L: Ledger>(
         → IfDemonstrates (seen_line line.now) (λ n. IsPrintedFront n (W.ledger world.new)) }
     ensures bad { IsBadLine (seen_line line.now) → IsWordFault result }
     ensures kept { IfRan result (CountsKept (W.ledger world.old) (W.ledger world.new)) }
+    ensures named_log { Named LogOut (log_name (seen_line line.now))
+        (W.ledger world.old) (W.ledger world.new) }
+    ensures named_console { Named ConsoleOut None (W.ledger world.old) (W.ledger world.new) }
     ensures balanced_firmware { Balanced FirmwareRole (W.ledger world.old) (W.ledger world.new) }
     ensures balanced_input { Balanced ConsoleIn (W.ledger world.old) (W.ledger world.new) }
     ensures balanced_console { Balanced ConsoleOut (W.ledger world.old) (W.ledger world.new) }
@@ -171,6 +177,9 @@ fn answer_uncounted<W: World, L: Ledger>(
         → IfDemonstrates (seen_line line.now) (λ n. IsPrintedFront n (W.ledger world.new)) }
     ensures bad { IsBadLine (seen_line line.now) → IsWordFault result }
     ensures kept { IfRan result (CountsKept (W.ledger world.old) (W.ledger world.new)) }
+    ensures named_log { Named LogOut (log_name (seen_line line.now))
+        (W.ledger world.old) (W.ledger world.new) }
+    ensures named_console { Named ConsoleOut None (W.ledger world.old) (W.ledger world.new) }
     ensures balanced_firmware { Balanced FirmwareRole (W.ledger world.old) (W.ledger world.new) }
     ensures balanced_input { Balanced ConsoleIn (W.ledger world.old) (W.ledger world.new) }
     ensures balanced_console { Balanced ConsoleOut (W.ledger world.old) (W.ledger world.new) }
@@ -263,8 +272,9 @@ pub fn rrvm_main<R: Threads + Wait + Sync + AllocGlobal, W: World>(
     ensures unfaulted { (r : Recording) → line_in words.now ≡ Records r → HasRun result.code
         → CountsKept (W.ledger world.old) (W.ledger world.new) }
 
-    // A replay of a log that is accepted whole has the status of the log's END where nothing fails,
-    // and of another it doesn't.
+    // Where nothing fails, a replay of a log that is accepted whole has the status of the log's END;
+    // a log that is wrong among its first 2^40 bytes is refused; and a longer one that isn't is too
+    // long.
     ensures replays { (r : Replaying) (log file : List ℕ) (reason code : ℕ)
         → line_in words.now ≡ Replays r
         → (W.ledger world.old).names r.log ≡ Some log
@@ -277,7 +287,16 @@ pub fn rrvm_main<R: Threads + Wait + Sync + AllocGlobal, W: World>(
         → (W.ledger world.old).names r.bios ≡ Some file
         → IsRefusable r log file
         → CountsStood (W.ledger world.old) (W.ledger world.new)
-        → (result.code ≡ 20) ⊎ ((result.code ≡ 22) ⊎ (result.code ≡ 30)) }
+        → (result.code ≡ 20) ⊎ (result.code ≡ 30) }
+    ensures too_long { (r : Replaying) (log file : List ℕ) → line_in words.now ≡ Replays r
+        → (W.ledger world.old).names r.log ≡ Some log
+        → (W.ledger world.old).names r.bios ≡ Some file
+        → IsTooLong r log file
+        → CountsStood (W.ledger world.old) (W.ledger world.new)
+        → (result.code ≡ 22) ⊎ (result.code ≡ 30) }
+
+    // Where each sink was opened: the log in the words' file, console and messages without a name.
+    ensures sinks { SinksNamed (line_in words.now) (W.ledger world.old) (W.ledger world.new) }
 
     // Each device is given back.
     ensures balanced { (role : ARole) → Balanced role (W.ledger world.old) (W.ledger world.new) }
@@ -315,6 +334,9 @@ pub fn rrvm_quiet<W: World>(alloc: Global, words: &[String], world: &mut W) -> S
         → Rose (at (W.ledger world.old).faults ConsoleOut)
         (at (W.ledger world.new).faults ConsoleOut) }
     ensures passed { result.code ≡ 0 → IsPrinted (quiet_in words.now) (W.ledger world.new) }
+
+    // Where each sink was opened: the log in the words' file, console and messages without a name.
+    ensures sinks { SinksNamed (quiet_in words.now) (W.ledger world.old) (W.ledger world.new) }
 
     // Each device is given back.
     ensures balanced { (role : ARole) → Balanced role (W.ledger world.old) (W.ledger world.new) }

@@ -1,4 +1,8 @@
-use Rattle.rrvm.proofs.Fresh.{recorded-whole, recorded-front}
+use Rattle.std.proofs.Common.{ap}
+use Rattle.outside.specs.Ledger.{Ledger}
+use Rattle.outside.specs.Roles.{at}
+use Rattle.outside.specs.declared.roles.Role.TheVariants.{LogOut}
+use Rattle.rrvm.proofs.Fresh.{recorded-whole, recorded-front, recorded-stop, opens-no-stop}
 use Rattle.rrvm.proofs.recording.record.Goals as goal
 
 pub returns-clause-whole : goal.returns-clause-whole
@@ -14,3 +18,14 @@ returns-clause-front g c = λ more.
     (g.W.World.ledger c.open.new.world) (g.W.World.ledger c.close.new.world) c.in-Ok.parts
     c.record_one-end.new.parts c.record_one-end.result c.in-Ok.ensures.fresh
     c.record_one-end.ensures c.close.ensures
+
+pub returns-in-Err-clause-stopped : goal.returns-in-Err-clause-stopped
+returns-in-Err-clause-stopped g c = λ stood. opens-no-stop c.in-Err.end _ c.in-Err.ensures.fault
+
+pub returns-clause-stopped : goal.returns-clause-stopped
+returns-clause-stopped g c = λ stood.
+    recorded-stop c.args.header.now c.args.firmware.now (g.W.World.ledger c.args.world.now)
+    (g.W.World.ledger c.open.new.world) (g.W.World.ledger c.close.new.world) c.in-Ok.parts
+    c.record_one-end.new.parts c.record_one-end.result c.recording_end.result c.in-Ok.ensures.fresh
+    (ap (λ (l : Ledger). at l.faults LogOut) c.in-Ok.ensures.opened)
+    c.record_one-end.ensures c.close.ensures c.recording_end.ensures stood

@@ -15,7 +15,7 @@ returns-clause-cause g c =
     run-cause (asked c.args.words.now) old mid (g.W.World.ledger c.record.new.world)
     c.in-Ok.firmware c.header-header.result
     c.record.result c.ending_outcome.result c.ending_outcome.ensures gives c.header-header.ensures
-    c.record.ensures.whole
+    c.record.ensures.whole c.record.ensures.stopped
     c.record.ensures.unopened c.record.ensures.input_fault c.record.ensures.console_fault
     c.record.ensures.log_fault c.in-Ok.ensures.kept.opening c.in-Ok.ensures.rest
 

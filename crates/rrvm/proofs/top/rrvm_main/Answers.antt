@@ -1,8 +1,8 @@
 use Rattle.std.proofs.Common.{map, string_bytes}
 use Rattle.command_line.specs.Line.{seen_line, line_in}
-use Rattle.rrvm.proofs.Completing.{replays-told, refuses-told}
+use Rattle.rrvm.proofs.Completing.{replays-told, refuses-told, long-told}
 use Rattle.rrvm.proofs.Statuses.{bad-firmware-told, guest-ended-told, passed-told, unfaulted-told}
-use Rattle.rrvm.proofs.Telling.{told-explained, told-log, told-printed, told-shown}
+use Rattle.rrvm.proofs.Telling.{told-explained, told-log, told-printed, told-shown, told-sinks}
 use Rattle.rrvm.proofs.top.rrvm_main.Goals as goal
 
 pub returns-clause-explained : goal.returns-clause-explained
@@ -51,6 +51,12 @@ returns-clause-refuses g c =
     (g.W.World.ledger c.args.world.now)
     (g.W.World.ledger c.tell-told.new.world) c.status.result (returns-clause-explained g c)
 
+pub returns-clause-too_long : goal.returns-clause-too_long
+returns-clause-too_long g c =
+    long-told (map string_bytes c.args.words.now) (line_in c.args.words.now)
+    (g.W.World.ledger c.args.world.now)
+    (g.W.World.ledger c.tell-told.new.world) c.status.result (returns-clause-explained g c)
+
 pub returns-clause-bad_firmware : goal.returns-clause-bad_firmware
 returns-clause-bad_firmware g c =
     bad-firmware-told (map string_bytes c.args.words.now) (line_in c.args.words.now)
@@ -78,3 +84,12 @@ returns-clause-unfaulted g c = λ r asks run.
     c.read_line-line.ensures.value c.tell-told.ensures.rest c.tell-told.ensures.which
     c.answer_uncounted-outcome.ensures.cause
     c.answer_uncounted-outcome.ensures.kept c.status.ensures r asks run
+
+pub returns-clause-sinks : goal.returns-clause-sinks
+returns-clause-sinks g c =
+    told-sinks (seen_line c.read_line-line.result) (line_in c.args.words.now)
+    (g.W.World.ledger c.args.world.now) (g.W.World.ledger c.answer_uncounted-outcome.new.world)
+    (g.W.World.ledger c.tell-told.new.world)
+    c.read_line-line.ensures.value c.answer_uncounted-outcome.ensures.rest c.tell-told.ensures.rest
+    c.answer_uncounted-outcome.ensures.named_log c.answer_uncounted-outcome.ensures.named_console
+    c.tell-told.ensures.named

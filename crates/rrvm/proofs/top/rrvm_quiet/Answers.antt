@@ -1,7 +1,7 @@
 use Rattle.std.proofs.Common.{map, string_bytes}
 use Rattle.command_line.specs.Line.{seen_line, quiet_in}
 use Rattle.rrvm.proofs.Statuses.{quiet-told}
-use Rattle.rrvm.proofs.Telling.{told-explained, told-printed}
+use Rattle.rrvm.proofs.Telling.{told-explained, told-printed, told-sinks}
 use Rattle.rrvm.proofs.top.rrvm_quiet.Goals as goal
 
 pub returns-clause-explained : goal.returns-clause-explained
@@ -28,3 +28,12 @@ pub returns-clause-passed : goal.returns-clause-passed
 returns-clause-passed g c =
     quiet-told (map string_bytes c.args.words.now) (g.W.World.ledger c.args.world.now)
     (g.W.World.ledger c.tell-told.new.world) c.status.result (returns-clause-explained g c)
+
+pub returns-clause-sinks : goal.returns-clause-sinks
+returns-clause-sinks g c =
+    told-sinks (seen_line c.read_quiet-line.result) (quiet_in c.args.words.now)
+    (g.W.World.ledger c.args.world.now) (g.W.World.ledger c.answer_uncounted-outcome.new.world)
+    (g.W.World.ledger c.tell-told.new.world)
+    c.read_quiet-line.ensures.value c.answer_uncounted-outcome.ensures.rest c.tell-told.ensures.rest
+    c.answer_uncounted-outcome.ensures.named_log c.answer_uncounted-outcome.ensures.named_console
+    c.tell-told.ensures.named
