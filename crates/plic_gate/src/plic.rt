@@ -80,17 +80,18 @@ impl Plic {
     }
 
     /// Sets the level of a source. Pending stays when the level falls.
+    #[tactic(auto, using(crate::proofs::Words::cleared_same))]
     pub fn set_level(&mut self, source: u32, high: bool)
         requires some { 1 ≤ source }
         requires few { source ≤ 31 }
         ensures { self.new ≡ with_level self.old source high }
     {
-        self.level = if high {
-            with_bit(self.level, source)
+        if high {
+            self.level = with_bit(self.level, source);
+            self.forward(source);
         } else {
-            without_bit(self.level, source)
-        };
-        self.forward(source);
+            self.level = without_bit(self.level, source);
+        }
     }
 
     /// The priority with which a source asks, 0 where it doesn't.

@@ -67,6 +67,7 @@ impl Ram {
     }
 
     /// The place in the list of bytes of a range that lies wholly in RAM.
+    #[inline(always)]
     fn place_of(&self, at: u64, len: u64) -> Option<usize>
         ensures found { IfSome result (λ place. LiesIn self.now at len × (ram_start + place ≡ at)) }
         ensures outside { IfNone result (¬ LiesIn self.now at len) }
@@ -81,6 +82,7 @@ impl Ram {
     }
 
     /// The number of 1, 2 or 4 bytes in a range.
+    #[inline(always)]
     pub fn load(&self, at: u32, size: u32) -> Result<u32, RamError>
         requires { IsSize size }
         ensures answer { MatchResult result
@@ -94,8 +96,8 @@ impl Ram {
         }
     }
 
-    /// Writes bytes at a place. A write that passes from one page to the next is made on a share,
-    /// so that want of memory leaves all as it was.
+    /// Writes bytes at a place.
+    #[inline(always)]
     fn write(&mut self, place: usize, fresh: &[u8]) -> Result<(), NoMemory>
         requires { place + length fresh.now ≤ length self.old }
         ensures ok { OnOk result (self.new ≡ overwritten self.old place fresh.now) }
@@ -106,15 +108,28 @@ impl Ram {
         }
         if place % PAGE + fresh.len() <= PAGE {
             write_in_page(self.pages.as_mut_slice(), place, fresh)?;
+            Ok(())
         } else {
-            let mut pages = shared(&self.pages)?;
-            write_in_pages(pages.as_mut_slice(), place, fresh)?;
-            self.pages = pages;
+            self.write_across(place, fresh)
         }
+    }
+
+    /// Writes bytes that pass from one page to the next, on a share, so that want of memory leaves
+    /// all as it was.
+    #[inline(never)]
+    fn write_across(&mut self, place: usize, fresh: &[u8]) -> Result<(), NoMemory>
+        requires { place + length fresh.now ≤ length self.old }
+        ensures ok { OnOk result (self.new ≡ overwritten self.old place fresh.now) }
+        ensures err { OnErr result (self.new ≡ self.old) }
+    {
+        let mut pages = shared(&self.pages)?;
+        write_in_pages(pages.as_mut_slice(), place, fresh)?;
+        self.pages = pages;
         Ok(())
     }
 
     /// Writes the low 1, 2 or 4 bytes of a number over a range.
+    #[inline(always)]
     pub fn store(&mut self, at: u32, size: u32, value: u32) -> Result<(), RamError>
         requires { IsSize size }
         ensures ok { OnOk result

@@ -7,6 +7,7 @@ use crate::csrs::Csrs;
 impl Csrs {
     /// Counts a turn, and the instruction where it retired. A counter that the turn wrote stays as
     /// written.
+    #[inline(always)]
     pub fn tick(&mut self, retired: bool)
         ensures { self.new ≡ ticked self.old retired }
     {

@@ -32,14 +32,15 @@ impl Csrs {
     }
 
     /// Whether an interrupt is enabled that would be taken in this mode.
+    #[inline(always)]
     pub fn hears(&self, mode: Mode) -> bool
         ensures { result ≡ hears self.now mode }
     {
-        let takes = match mode {
-            Mode::U => true,
-            Mode::M => self.status.mie,
-        };
-        takes && self.mie != 0
+        self.mie != 0
+            && match mode {
+                Mode::U => true,
+                Mode::M => self.status.mie,
+            }
     }
 
     /// The interrupt that is to be entered before the next instruction.

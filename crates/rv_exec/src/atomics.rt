@@ -12,6 +12,7 @@ use crate::traps::{LOAD_FAULT, MISALIGNED_LOAD, MISALIGNED_STORE, STORE_FAULT, t
 use rv_decode::Op;
 
 /// LR.W.
+#[inline(never)]
 #[tactic(auto, unfolding(crate::specs::Rows::reserves))]
 pub fn load_reserved<B: Bus>(h: &mut Hart, bus: &mut B, rd: u8, at: u32) -> Done
     requires { rd < 32 }
@@ -44,6 +45,7 @@ fn is_reserved(h: &Hart, at: u32) -> bool
 }
 
 /// SC.W.
+#[inline(never)]
 #[tactic(auto, unfolding(crate::specs::Rows::stores_if_reserved))]
 pub fn store_conditional<B: Bus>(h: &mut Hart, bus: &mut B, rd: u8, at: u32, value: u32) -> Done
     requires { rd < 32 }
@@ -91,6 +93,7 @@ fn combined(op: Op, old: u32, b: u32) -> u32
 }
 
 /// An atomic row: the old word goes to a register, and what the row makes of it back to the memory.
+#[inline(never)]
 #[tactic(auto, unfolding(crate::specs::Rows::modifies))]
 pub fn modify<B: Bus>(h: &mut Hart, bus: &mut B, rd: u8, at: u32, op: Op, b: u32) -> Done
     requires { rd < 32 }

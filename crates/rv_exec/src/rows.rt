@@ -20,6 +20,7 @@ use rv_decode::{Ins, Op};
 
 /// Executes one instruction, which is the one that `word` means. The word plays a part only as the
 /// value of a trap.
+#[inline(always)]
 pub fn execute<B: Bus>(h: &mut Hart, bus: &mut B, ins: Ins, word: u32) -> Done
     requires { IsWithin ins }
     ensures meaning { result ≢ Done.NoMemory →
@@ -37,6 +38,7 @@ pub fn execute<B: Bus>(h: &mut Hart, bus: &mut B, ins: Ins, word: u32) -> Done
 }
 
 /// The row of the instruction.
+#[inline(always)]
 fn perform<B: Bus>(h: &mut Hart, bus: &mut B, ins: Ins, word: u32) -> Done
     requires { IsWithin ins }
     ensures meaning { result ≢ Done.NoMemory →

@@ -47,6 +47,7 @@ fn writes(change: Change, rs1: u8) -> bool
 }
 
 /// A row on a control register.
+#[inline(never)]
 #[tactic(auto, unfolding(crate::specs::Rows::csr))]
 pub fn exchange<B: Bus>(
     h: &mut Hart,
@@ -75,6 +76,7 @@ pub fn exchange<B: Bus>(
 }
 
 /// ECALL.
+#[inline(never)]
 pub fn call(h: &Hart) -> Done
     ensures { result ≡ (calls h.now h.now.mode).done }
 {
@@ -85,6 +87,7 @@ pub fn call(h: &Hart) -> Done
 }
 
 /// MRET.
+#[inline(never)]
 #[tactic(auto, unfolding(crate::specs::Rows::returns_from_trap))]
 pub fn return_from_trap(h: &mut Hart, word: u32) -> Done
     ensures done { result ≡ (returns_from_trap h.old word h.old.mode).done }
@@ -116,6 +119,7 @@ fn may_wait(h: &Hart, inputs: &Inputs) -> bool
 }
 
 /// WFI.
+#[inline(never)]
 #[tactic(auto, unfolding(crate::specs::Rows::waits))]
 pub fn wait(h: &mut Hart, inputs: &Inputs, word: u32) -> Done
     ensures done { result ≡ (waits inputs.now h.old word).done }
