@@ -21,6 +21,7 @@ use rv_exec::Hart;
 use rv_exec::laws::load_of;
 
 /// Whether a turn is due, as far as the marks, the counts and the interrupts say.
+#[inline(always)]
 pub(crate) fn is_clear(control: &Control, count: u64, code: Option<u32>, interrupt: bool) -> bool
     ensures { result ≡ is_run (due_by_of control.now count code false interrupt false) }
 {
@@ -34,6 +35,7 @@ pub(crate) fn is_clear(control: &Control, count: u64, code: Option<u32>, interru
         && !interrupt
 }
 
+#[inline(always)]
 fn is_idle_window(window: Window) -> bool
     ensures { result ≡ is_idle_window_of window }
 {
@@ -89,6 +91,7 @@ pub(crate) fn due_by(
 
 /// The interrupt that is due, where the clock shows this time. Mostly none is enabled, and then
 /// the devices aren't asked.
+#[inline(always)]
 #[tactic(auto, unfolding(crate::specs::Access::inputs), using(crate::proofs::Hearing::deaf))]
 pub(crate) fn interrupt_at(hart: &Hart, devices: &Devices, time: &Time) -> Option<u32>
     ensures { result ≡

@@ -23,6 +23,7 @@ use elf_load::Loaded;
 use outside::NoMemory;
 use plic_gate::Plic;
 use rv_csr::{Csrs, Mode};
+use rv_decode::DecodeCache;
 use rv_exec::{Hart, Regs};
 use std::alloc::Global;
 use std::marker::Model;
@@ -33,6 +34,8 @@ pub struct Machine {
     pub(crate) hart: Hart,
     pub(crate) devices: Devices,
     pub(crate) control: Control,
+    /// What the last words meant. It only saves time and is no part of the state.
+    pub(crate) cache: DecodeCache,
 }
 
 impl Model for Machine {
@@ -55,6 +58,7 @@ impl Machine {
         ensures { IfOk result (λ m. m ≡ reset_of config.now firmware.now) }
     {
         let ram = ram_with(alloc, config.ram_mib, firmware.pieces.as_slice())?;
+        let cache = DecodeCache::new(alloc)?;
         Ok(Machine {
             hart: Hart {
                 pc: firmware.entry,
@@ -81,6 +85,7 @@ impl Machine {
                 slice: config.slice,
                 budget: config.budget,
             },
+            cache,
         })
     }
 
@@ -178,6 +183,7 @@ impl Machine {
             hart: self.hart,
             devices: self.devices.share()?,
             control: self.control,
+            cache: self.cache.share()?,
         })
     }
 }

@@ -12,6 +12,7 @@ use ram_pages::{Ram, RamError};
 use std::alloc::{AllocError, Global};
 
 /// The number in a range of RAM.
+#[inline(always)]
 #[tactic(auto, unfolding(crate::specs::Memory::ram_load), using(crate::proofs::Lying::lying))]
 pub(crate) fn ram_load(ram: &Ram, at: u32, size: u32) -> Option<u32>
     requires { IsSize size }

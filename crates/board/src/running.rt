@@ -23,17 +23,24 @@ pub enum Turned {
 
 impl Machine {
     /// A turn where one is due. It closes an open window first.
+    #[inline(always)]
     #[tactic(auto, unfolding(crate::specs::Due::due, crate::specs::Turn::turn, crate::specs::Close::close))]
     pub(crate) fn advance(&mut self) -> Stepped
         ensures { Advances self.old result self.new }
     {
         if let Window::Shut = self.control.window {
-            return step(&mut self.hart, &mut self.devices, &mut self.control);
+            return step(
+                &mut self.hart,
+                &mut self.devices,
+                &mut self.control,
+                &mut self.cache,
+            );
         }
         self.advance_closing()
     }
 
     /// The same, where a window may be open.
+    #[inline(never)]
     #[tactic(auto, unfolding(crate::specs::Due::due, crate::specs::Turn::turn))]
     fn advance_closing(&mut self) -> Stepped
         ensures { Advances self.old result self.new }
@@ -42,7 +49,12 @@ impl Machine {
         let (control, time) = closed(&self.hart, &self.devices, &self.control);
         self.control = control;
         self.devices.time = time;
-        match step(&mut self.hart, &mut self.devices, &mut self.control) {
+        match step(
+            &mut self.hart,
+            &mut self.devices,
+            &mut self.control,
+            &mut self.cache,
+        ) {
             Stepped::Turned => Stepped::Turned,
             other => {
                 self.control = before.0;

@@ -10,7 +10,7 @@ use crate::deciding::{interrupt_at, is_clear};
 use crate::devices::Devices;
 use crate::memory::ram_load;
 use rv_csr::Mode;
-use rv_decode::decode;
+use rv_decode::DecodeCache;
 use rv_exec::{Done, Hart, execute};
 
 /// The cause of a fetch outside RAM.
@@ -20,8 +20,9 @@ const INSTRUCTION_ACCESS_FAULT: u32 = 1;
 const ILLEGAL_INSTRUCTION: u32 = 2;
 
 /// The attempt at the instruction at pc. It leaves the clock as it is.
+#[inline(always)]
 #[tactic(auto, using(crate::proofs::TimeHeld::attempt_time))]
-pub(crate) fn attempt(hart: &mut Hart, devices: &mut Devices) -> Done
+pub(crate) fn attempt(hart: &mut Hart, devices: &mut Devices, cache: &mut DecodeCache) -> Done
     ensures reached { result ≢ Done.NoMemory →
         Reaches (attempt_of hart.old devices.old) result hart.new devices.new }
     ensures refused { result ≡ Done.NoMemory →
@@ -30,12 +31,13 @@ pub(crate) fn attempt(hart: &mut Hart, devices: &mut Devices) -> Done
         (hart.new ≡ hart.old) × (devices.new ≡ devices.old) }
     ensures time { devices.new.time ≡ devices.old.time }
 {
-    fetch(hart, devices)
+    fetch(hart, devices, cache)
 }
 
 /// The fetch, the decoding and the execution of the word at pc.
+#[inline(always)]
 #[tactic(auto, unfolding(crate::specs::Turn::attempt))]
-fn fetch(hart: &mut Hart, devices: &mut Devices) -> Done
+fn fetch(hart: &mut Hart, devices: &mut Devices, cache: &mut DecodeCache) -> Done
     ensures reached { result ≢ Done.NoMemory →
         Reaches (attempt_of hart.old devices.old) result hart.new devices.new }
     ensures refused { result ≡ Done.NoMemory →
@@ -49,7 +51,7 @@ fn fetch(hart: &mut Hart, devices: &mut Devices) -> Done
             value: hart.pc,
         };
     };
-    let Some(ins) = decode(word) else {
+    let Some(ins) = cache.decode(hart.pc, word) else {
         return Done::Trap {
             cause: ILLEGAL_INSTRUCTION,
             value: word,
@@ -71,8 +73,14 @@ pub(crate) enum Stepped {
 
 /// A turn where one is due, of a state whose window is closed. The word is decoded once: whether
 /// the turn needs the clock shows in the attempt.
+#[inline(always)]
 #[tactic(auto, unfolding(crate::specs::Due::due_closed, crate::specs::Due::needs_clock, crate::specs::Turn::turn_closed), using(crate::proofs::DueFacts::deciding, crate::proofs::Levels::levels_time))]
-pub(crate) fn step(hart: &mut Hart, devices: &mut Devices, control: &mut Control) -> Stepped
+pub(crate) fn step(
+    hart: &mut Hart,
+    devices: &mut Devices,
+    control: &mut Control,
+    cache: &mut DecodeCache,
+) -> Stepped
     requires { Counts control.old devices.old.time }
     ensures step { StepsTo
         (record { hart = hart.old; devices = devices.old; control = control.old }) result
@@ -88,7 +96,7 @@ pub(crate) fn step(hart: &mut Hart, devices: &mut Devices, control: &mut Control
     ) {
         return Stepped::Stopped;
     }
-    let done = attempt(hart, devices);
+    let done = attempt(hart, devices, cache);
     match done {
         Done::NeedClock => Stepped::Stopped,
         Done::NoMemory => Stepped::NoMemory,
@@ -100,6 +108,7 @@ pub(crate) fn step(hart: &mut Hart, devices: &mut Devices, control: &mut Control
 }
 
 /// Enters a trap.
+#[inline(never)]
 fn enter(hart: &mut Hart, cause: u32, value: u32)
     ensures { hart.new ≡ entered hart.old cause value }
 {
@@ -108,6 +117,7 @@ fn enter(hart: &mut Hart, cause: u32, value: u32)
 }
 
 /// What is left of a turn that was made: the trap's entry, the counts, and the levels.
+#[inline(always)]
 pub(crate) fn settle(hart: &mut Hart, devices: &mut Devices, control: &mut Control, done: Done)
     requires count { devices.old.time.count < 2 ^ 40 }
     requires since { control.old.since < 65536 }

@@ -3,6 +3,7 @@
 //! `decode(0x40000033)` is `SUB` with the registers 0, 0 and 0, and `decode(0x40001033)` is none.
 #![tactic(auto)]
 
+mod cache;
 mod decoder;
 mod fields;
 mod format;
@@ -10,9 +11,14 @@ mod ins;
 mod op;
 mod opcodes;
 
+pub use cache::DecodeCache;
 pub use decoder::decode;
 pub use ins::Ins;
 pub use op::Op;
+use std::alloc::AllocError;
+
+/// Want of memory.
+pub type NoMemory = AllocError;
 
 #[cfg(test)]
 mod tests;

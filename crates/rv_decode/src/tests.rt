@@ -1,5 +1,6 @@
 //! Words that another assembler gave, and the two that differ from a row in one bit.
 use super::*;
+use std::test::Fail;
 
 /// The fields of an instruction, in the order of the struct.
 fn fields_of(word: u32) -> Option<(Op, u8, u8, u8, i32, u16)> {
@@ -41,4 +42,17 @@ fn each_format_has_its_fields(rt: HostRuntime) {
     for (word, want) in rows {
         assert_eq!(rt; fields_of(word), Some(want), "of {word:x}");
     }
+}
+
+#[test]
+fn a_word_at_the_address_of_another_is_decoded(rt: HostRuntime) -> Result<(), Fail> {
+    let mut cache = DecodeCache::new(rt.alloc())?;
+    let sub = decode(0x4000_0033);
+    assert_eq!(rt; cache.decode(0x8000_0000, 0x4000_0033), sub);
+    assert_eq!(rt; cache.decode(0x8000_0000, 0x4000_1033), None);
+    assert_eq!(rt; cache.decode(0x8000_1000, 0x4000_0033), sub);
+    let mut copy = cache.share()?;
+    assert_eq!(rt; cache.decode(0x8000_0000, 0x4000_0033), sub);
+    assert_eq!(rt; copy.decode(0x8000_0000, 0x0031_00b3), decode(0x0031_00b3));
+    Ok(())
 }
