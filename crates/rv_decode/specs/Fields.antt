@@ -1,6 +1,6 @@
 -- The fields of an instruction word, by its format (Unprivileged ISA, 2.2 Base Instruction Formats
 -- and 2.3 Immediate Encoding Variants).
-use Rattle.std.specs.Prelude.{ℕ, ◌≡◌, ◌<◌, ◌^◌, ◌/◌, ◌%◌, ◌*◌, ◌+◌, ◌-◌, ℤ, pos, negsuc, nat_lt, if◌then◌else◌, Option, IfSome}
+use Rattle.std.specs.Prelude.{ℕ, ◌<◌, ◌^◌, ◌/◌, ◌%◌, ◌*◌, ◌+◌, ◌-◌, ℤ, pos, negsuc, nat_lt, if◌then◌else◌, Option}
 use Rattle.rv_decode.specs.declared.op.Op.{Op}
 use Rattle.rv_decode.specs.declared.format.Format.{Format}
 use Rattle.rv_decode.specs.declared.format.Format.TheVariants.{R, I, S, B, U, J, Shift, Csr, Plain}
@@ -73,8 +73,3 @@ pub record IsWithin (ins : Ins) : Type 0 where
   pub rd : ins.rd < 32
   pub rs1 : ins.rs1 < 32
   pub rs2 : ins.rs2 < 32
-
--- what stands beside a word that was decoded
-pub record Knows (w : ℕ) (ins : Option Ins) : Type 0 where
-  pub instruction : ins ≡ decoded w
-  pub registers : IfSome ins IsWithin

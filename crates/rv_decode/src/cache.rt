@@ -20,7 +20,8 @@ struct Known {
 
 impl Model for Known {
     ghost use Rattle.std.specs.Prelude.{ℕ};
-    ghost use Rattle.rv_decode.specs.Fields.{Knows, decoded};
+    ghost use Rattle.rv_decode.specs.Fields.{decoded};
+    ghost use Rattle.rv_decode.specs.Kept.{Knows};
 
     ghost Value = { ℕ };
 
