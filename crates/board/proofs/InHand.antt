@@ -1,6 +1,6 @@
 -- Where the next turn needs the clock, no value is in hand.
-use Rattle.std.proofs.Common.{◌≡◌, ℕ, ◌%◌, Bool, true, false, refl, sym, ap, ◌∙◌, inl, inr}
-use Rattle.std.specs.Prelude.{◌==◌, ◌&&◌, Option, Some, None, is_none, if◌then◌else◌}
+use Rattle.std.proofs.Common.{◌≡◌, ℕ, ◌%◌, Bool, true, false, refl, sym, ◌∙◌, inl, inr}
+use Rattle.std.specs.Prelude.{◌==◌, ◌&&◌, Option, Some, None, is_none}
 use Rattle.std.proofs.lemmas.Bool.{cases_Bool}
 use Rattle.rv_decode.specs.declared.ins.Ins.{Ins}
 use Rattle.rv_decode.specs.Fields.{decoded}

@@ -136,3 +136,9 @@ TakesDue g e (Ok done) after = takes (due g) e (close g) ≡ Some after
 TakesDue g e (Err (error.Wrong d)) after =
     (takes (due g) e (close g) ≡ None) × (d ≡ due g) × (after ≡ g)
 TakesDue g e (Err error.NoMemory) after = ⊥
+
+-- a window takes an event, or this is due instead
+abbrev pub AsksWindow : State → Result Unit AcceptError → Type 0
+AsksWindow g (Ok done) = takes_input g.control ≡ true
+AsksWindow g (Err (error.Wrong d)) = (takes_input g.control ≡ false) × (d ≡ due g)
+AsksWindow g (Err error.NoMemory) = ⊥

@@ -1,8 +1,8 @@
 //! Events other than INSTRUCTION.
 
-ghost use Rattle.std.specs.Prelude.{◌≡◌, ◌⊎◌, []};
+ghost use Rattle.std.specs.Prelude.{◌≡◌, ◌⊎◌, [], Some};
 ghost use Rattle.event_log.specs.Spelling.{IsEvent};
-ghost use Rattle.board.specs.Accept.{Accepts, Takes, TakesDue, takes_input as takes_input_of, used, interrupted, ended as ended_of};
+ghost use Rattle.board.specs.Accept.{Accepts, Takes, TakesDue, AsksWindow, takes_input as takes_input_of, used, interrupted, ended as ended_of};
 
 use crate::closing::closed;
 use crate::control::{Control, Ending, Window};
@@ -45,6 +45,29 @@ fn used_window(window: Window) -> Window
     }
 }
 
+/// A checkpoint: the turns since the last one begin anew, and a window opens.
+fn at_checkpoint(control: Control, window: Window) -> Control
+    ensures { result ≡ record control { since = 0; window = window } }
+{
+    Control {
+        since: 0,
+        window,
+        ..control
+    }
+}
+
+/// The run ends.
+fn at_end(control: Control, reason: u8, code: u32) -> Control
+    ensures { result ≡ record control {
+      ended = Some (record { reason = reason; code = code });
+    } }
+{
+    Control {
+        ended: Some(Ending { reason, code }),
+        ..control
+    }
+}
+
 /// Enters an interrupt before the instruction at pc.
 fn interrupt(hart: &mut Hart, which: u32)
     requires { (which ≡ 3) ⊎ (which ≡ 7) ⊎ (which ≡ 11) }
@@ -77,9 +100,7 @@ impl Machine {
     {
         match e {
             Event::CharRead(bytes) => {
-                if !takes_input(&self.control) {
-                    return Err(AcceptError::Wrong(self.due()));
-                }
+                self.ask_window()?;
                 if self.devices.uart.receive(bytes.as_slice()).is_err() {
                     return Err(AcceptError::NoMemory);
                 }
@@ -87,18 +108,14 @@ impl Machine {
                 Ok(())
             }
             Event::Net(_) => {
-                if !takes_input(&self.control) {
-                    return Err(AcceptError::Wrong(self.due()));
-                }
+                self.ask_window()?;
                 self.hart.reservation = None;
                 self.control.window = used_window(self.control.window);
                 Ok(())
             }
             Event::Block { .. } => Err(AcceptError::Wrong(self.due())),
             Event::End { reason: 3, code } => {
-                if !takes_input(&self.control) {
-                    return Err(AcceptError::Wrong(self.due()));
-                }
+                self.ask_window()?;
                 self.end(3, *code);
                 Ok(())
             }
@@ -106,10 +123,21 @@ impl Machine {
         }
     }
 
+    /// Whether an event may come now, or else what is due instead.
+    fn ask_window(&self) -> Result<(), AcceptError>
+        ensures { AsksWindow self.now result }
+    {
+        if takes_input(&self.control) {
+            Ok(())
+        } else {
+            Err(AcceptError::Wrong(self.due()))
+        }
+    }
+
     fn end(&mut self, reason: u8, code: u32)
         ensures { self.new ≡ ended_of self.old reason code }
     {
-        self.control.ended = Some(Ending { reason, code });
+        self.control = at_end(self.control, reason, code);
     }
 
     /// The event that is due, of the state whose window is closed.
@@ -133,31 +161,18 @@ impl Machine {
                 self.control = control;
             }
             (Due::Idle, Event::Checkpoint { idle: true }) => {
-                self.control = Control {
-                    since: 0,
-                    window: Window::Idle { used: false },
-                    ..control
-                };
+                self.control = at_checkpoint(control, Window::Idle { used: false });
             }
             (Due::Slice, Event::Checkpoint { idle: false }) => {
-                self.control = Control {
-                    since: 0,
-                    window: Window::Slice { used: false },
-                    ..control
-                };
+                self.control = at_checkpoint(control, Window::Slice { used: false });
             }
             (Due::Clock, Event::Clock(value)) => {
                 self.control = control;
                 self.devices.rtc.give(*value);
             }
-            (Due::End { reason: r, code: c }, Event::End { reason, code }) => {
-                if r != *reason || c != *code {
-                    return Err(AcceptError::Wrong(due));
-                }
-                self.control = Control {
-                    ended: Some(Ending { reason: r, code: c }),
-                    ..control
-                };
+            (Due::End { reason: r, code: c }, Event::End { reason, code })
+                if r == *reason && c == *code => {
+                self.control = at_end(control, r, c);
             }
             _ => return Err(AcceptError::Wrong(due)),
         }

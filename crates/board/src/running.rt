@@ -1,7 +1,7 @@
 //! Turns, as long as one is due.
 
 ghost use Rattle.std.specs.Prelude.{◌≡◌};
-ghost use Rattle.board.specs.Answers.{Advances, RunsTo, Turns};
+ghost use Rattle.board.specs.Answers.{Advances, RunsTo, StepsTo, Turns};
 ghost use Rattle.board.specs.Due.{due as due_of};
 
 use crate::closing::closed;
@@ -29,12 +29,7 @@ impl Machine {
         ensures { Advances self.old result self.new }
     {
         if let Window::Shut = self.control.window {
-            return step(
-                &mut self.hart,
-                &mut self.devices,
-                &mut self.control,
-                &mut self.cache,
-            );
+            return self.step();
         }
         self.advance_closing()
     }
@@ -49,12 +44,7 @@ impl Machine {
         let (control, time) = closed(&self.hart, &self.devices, &self.control);
         self.control = control;
         self.devices.time = time;
-        match step(
-            &mut self.hart,
-            &mut self.devices,
-            &mut self.control,
-            &mut self.cache,
-        ) {
+        match self.step() {
             Stepped::Turned => Stepped::Turned,
             other => {
                 self.control = before.0;
@@ -62,6 +52,19 @@ impl Machine {
                 other
             }
         }
+    }
+
+    /// A turn where one is due and the window is closed.
+    #[inline(always)]
+    fn step(&mut self) -> Stepped
+        ensures { StepsTo self.old result self.new }
+    {
+        step(
+            &mut self.hart,
+            &mut self.devices,
+            &mut self.control,
+            &mut self.cache,
+        )
     }
 
     /// One turn, which closes an open window first. After `NoMemory` all is as before.
