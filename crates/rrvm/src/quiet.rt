@@ -1,8 +1,7 @@
 //! The commands that need no threads.
 
-ghost use Rattle.std.specs.Prelude.{◌≡◌, ◌<◌, ◌≤◌, ◌⊎◌, Some, None, []};
+ghost use Rattle.std.specs.Prelude.{◌≡◌, ◌<◌, ◌≤◌, ◌⊎◌, None};
 ghost use Rattle.outside.specs.Causes.{Rose};
-ghost use Rattle.outside.specs.Told.{Takes, TakesFront};
 ghost use Rattle.outside.specs.Roles.{at};
 ghost use Rattle.outside.specs.declared.roles.Role.TheVariants.{ConsoleOut};
 ghost use Rattle.command_line.specs.Words.{Demonstrates};
@@ -16,29 +15,6 @@ use board::Steps;
 use outside::World;
 use std::alloc::Global;
 use std::sync::ledger::Ledger;
-
-/// Prints the line of a quiet command.
-fn print_line<W: World>(line: &str, world: &mut W) -> Outcome
-    ensures printed { result ≡ Outcome.Printed
-        → Takes (Some []) (at (W.ledger world.new).last ConsoleOut) line.now }
-    ensures failed { result ≡ Outcome.QuietFailed
-        → Rose (at (W.ledger world.old).faults ConsoleOut)
-        (at (W.ledger world.new).faults ConsoleOut) }
-    ensures which { (result ≡ Outcome.Printed)
-        ⊎ ((result ≡ Outcome.QuietFailed) ⊎ (result ≡ Outcome.NoMemory)) }
-    ensures front { at (W.ledger world.old).opened ConsoleOut
-        < at (W.ledger world.new).opened ConsoleOut
-        → TakesFront (Some []) (at (W.ledger world.new).last ConsoleOut) line.now }
-    ensures named { Named ConsoleOut None (W.ledger world.old) (W.ledger world.new) }
-    ensures balanced { Balanced ConsoleOut (W.ledger world.old) (W.ledger world.new) }
-    ensures rest { W.ledger world.new ≡ only ConsoleOut (W.ledger world.old) (W.ledger world.new) }
-{
-    match print(line, world) {
-        Ok(()) => Outcome::Printed,
-        Err(PrintFault::Failed) => Outcome::QuietFailed,
-        Err(PrintFault::NoMemory) => Outcome::NoMemory,
-    }
-}
 
 /// Prints the line of a demonstration by n letters.
 pub(crate) fn demonstrate<W: World, L: Ledger>(
@@ -63,8 +39,12 @@ pub(crate) fn demonstrate<W: World, L: Ledger>(
     ensures balanced { Balanced ConsoleOut (W.ledger world.old) (W.ledger world.new) }
     ensures rest { W.ledger world.new ≡ only ConsoleOut (W.ledger world.old) (W.ledger world.new) }
 {
-    match demo_text(alloc, n, steps) {
-        Ok(text) => print_line(text.as_str(), world),
-        Err(_) => Outcome::NoMemory,
+    let Ok(text) = demo_text(alloc, n, steps) else {
+        return Outcome::NoMemory;
+    };
+    match print(text.as_str(), world) {
+        Ok(()) => Outcome::Printed,
+        Err(PrintFault::Failed) => Outcome::QuietFailed,
+        Err(PrintFault::NoMemory) => Outcome::NoMemory,
     }
 }

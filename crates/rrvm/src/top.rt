@@ -110,51 +110,8 @@ fn print_alone<W: World>(text: &str, world: &mut W) -> Outcome
     }
 }
 
-/// What the words come to over a world.
+/// What the words come to over a world. Nobody asks how many turns were made.
 fn answer<W: World, L: Ledger>(
-    alloc: Global,
-    line: &Line<'_>,
-    world: &mut W,
-    steps: &mut Steps<L>,
-) -> Outcome
-    requires { IsLineInRange (seen_line line.now) }
-    ensures cause { Cause (seen_line line.now) (W.ledger world.old) (W.ledger world.new) result }
-    ensures log { at (W.ledger world.old).opened LogOut < at (W.ledger world.new).opened LogOut
-        → IfRecords (seen_line line.now) (W.ledger world.old)
-        (λ r file. IsLogged r file (W.ledger world.old) (W.ledger world.new)) }
-    ensures shown { at (W.ledger world.old).opened ConsoleOut
-        < at (W.ledger world.new).opened ConsoleOut
-        → IfReplays (seen_line line.now) (W.ledger world.old)
-        (λ r bytes file. IsShown r bytes file (W.ledger world.new)) }
-    ensures demonstrated { at (W.ledger world.old).opened ConsoleOut
-        < at (W.ledger world.new).opened ConsoleOut
-        → IfDemonstrates (seen_line line.now) (λ n. IsPrintedFront n (W.ledger world.new)) }
-    ensures bad { IsBadLine (seen_line line.now) → IsWordFault result }
-    ensures kept { IfRan result (CountsKept (W.ledger world.old) (W.ledger world.new)) }
-    ensures named_log { Named LogOut (log_name (seen_line line.now))
-        (W.ledger world.old) (W.ledger world.new) }
-    ensures named_console { Named ConsoleOut None (W.ledger world.old) (W.ledger world.new) }
-    ensures balanced_firmware { Balanced FirmwareRole (W.ledger world.old) (W.ledger world.new) }
-    ensures balanced_input { Balanced ConsoleIn (W.ledger world.old) (W.ledger world.new) }
-    ensures balanced_console { Balanced ConsoleOut (W.ledger world.old) (W.ledger world.new) }
-    ensures balanced_log { Balanced LogOut (W.ledger world.old) (W.ledger world.new) }
-    ensures balanced_replayed { Balanced LogIn (W.ledger world.old) (W.ledger world.new) }
-    ensures balanced_clock { ClocksBalanced (W.ledger world.old) (W.ledger world.new) }
-    ensures rest { W.ledger world.new ≡ only_run (W.ledger world.old) (W.ledger world.new) }
-{
-    match line {
-        Line::Record(words) => run(alloc, words, world, steps),
-        Line::Replay(words) => replay(alloc, words, world, steps),
-        Line::Demo(n) => demonstrate(alloc, *n, world, steps),
-        Line::Help => print_alone(HELP, world),
-        Line::Version => print_alone(VERSION, world),
-        Line::BadWord(number) => Outcome::BadWord(*number),
-        Line::WordsMissing => Outcome::WordsMissing,
-    }
-}
-
-/// The same, where nobody asks how many turns were made.
-fn answer_uncounted<W: World, L: Ledger>(
     alloc: Global,
     blank: Blank,
     line: &Line<'_>,
@@ -189,7 +146,15 @@ fn answer_uncounted<W: World, L: Ledger>(
     ensures rest { W.ledger world.new ≡ only_run (W.ledger world.old) (W.ledger world.new) }
 {
     let mut steps: Steps<L> = Steps::open(blank);
-    answer(alloc, line, world, &mut steps)
+    match line {
+        Line::Record(words) => run(alloc, words, world, &mut steps),
+        Line::Replay(words) => replay(alloc, words, world, &mut steps),
+        Line::Demo(n) => demonstrate(alloc, *n, world, &mut steps),
+        Line::Help => print_alone(HELP, world),
+        Line::Version => print_alone(VERSION, world),
+        Line::BadWord(number) => Outcome::BadWord(*number),
+        Line::WordsMissing => Outcome::WordsMissing,
+    }
 }
 
 /// Does what the words ask for, over a world, and says on its messages how it ended.
@@ -305,7 +270,7 @@ pub fn rrvm_main<R: Threads + Wait + Sync + AllocGlobal, W: World>(
 {
     let alloc = rt.alloc();
     let line = read_line(words);
-    let outcome = answer_uncounted::<W, Brand>(alloc, Blank::new(1), &line, world);
+    let outcome = answer::<W, Brand>(alloc, Blank::new(1), &line, world);
     let told = tell(alloc, words, &line, outcome, world);
     Status {
         code: told.status(),
@@ -344,7 +309,7 @@ pub fn rrvm_quiet<W: World>(alloc: Global, words: &[String], world: &mut W) -> S
     ensures no_disk { NoDisk (W.ledger world.old) (W.ledger world.new) }
 {
     let line = read_quiet(words);
-    let outcome = answer_uncounted::<W, Brand>(alloc, Blank::new(1), &line, world);
+    let outcome = answer::<W, Brand>(alloc, Blank::new(1), &line, world);
     let told = tell(alloc, words, &line, outcome, world);
     Status {
         code: told.status(),

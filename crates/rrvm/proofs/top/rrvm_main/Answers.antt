@@ -9,35 +9,35 @@ pub returns-clause-explained : goal.returns-clause-explained
 returns-clause-explained g c =
     told-explained (map string_bytes c.args.words.now) (seen_line c.read_line-line.result)
     (line_in c.args.words.now)
-    (g.W.World.ledger c.args.world.now) (g.W.World.ledger c.answer_uncounted-outcome.new.world)
+    (g.W.World.ledger c.args.world.now) (g.W.World.ledger c.answer-outcome.new.world)
     (g.W.World.ledger c.tell-told.new.world)
-    c.answer_uncounted-outcome.result c.tell-told.result c.status.result
-    c.read_line-line.ensures.value c.answer_uncounted-outcome.ensures.rest c.tell-told.ensures.rest
-    c.tell-told.ensures.which c.answer_uncounted-outcome.ensures.cause c.tell-told.ensures.front
+    c.answer-outcome.result c.tell-told.result c.status.result
+    c.read_line-line.ensures.value c.answer-outcome.ensures.rest c.tell-told.ensures.rest
+    c.tell-told.ensures.which c.answer-outcome.ensures.cause c.tell-told.ensures.front
     c.tell-told.ensures.whole
     c.status.ensures
 
 pub returns-clause-log : goal.returns-clause-log
 returns-clause-log g c =
     told-log (seen_line c.read_line-line.result) (line_in c.args.words.now)
-    (g.W.World.ledger c.args.world.now) (g.W.World.ledger c.answer_uncounted-outcome.new.world)
+    (g.W.World.ledger c.args.world.now) (g.W.World.ledger c.answer-outcome.new.world)
     (g.W.World.ledger c.tell-told.new.world)
-    c.read_line-line.ensures.value c.tell-told.ensures.rest c.answer_uncounted-outcome.ensures.log
+    c.read_line-line.ensures.value c.tell-told.ensures.rest c.answer-outcome.ensures.log
 
 pub returns-clause-shown : goal.returns-clause-shown
 returns-clause-shown g c =
     told-shown (seen_line c.read_line-line.result) (line_in c.args.words.now)
-    (g.W.World.ledger c.args.world.now) (g.W.World.ledger c.answer_uncounted-outcome.new.world)
+    (g.W.World.ledger c.args.world.now) (g.W.World.ledger c.answer-outcome.new.world)
     (g.W.World.ledger c.tell-told.new.world)
-    c.read_line-line.ensures.value c.tell-told.ensures.rest c.answer_uncounted-outcome.ensures.shown
+    c.read_line-line.ensures.value c.tell-told.ensures.rest c.answer-outcome.ensures.shown
 
 pub returns-clause-demonstrated : goal.returns-clause-demonstrated
 returns-clause-demonstrated g c =
     told-printed (seen_line c.read_line-line.result) (line_in c.args.words.now)
-    (g.W.World.ledger c.args.world.now) (g.W.World.ledger c.answer_uncounted-outcome.new.world)
+    (g.W.World.ledger c.args.world.now) (g.W.World.ledger c.answer-outcome.new.world)
     (g.W.World.ledger c.tell-told.new.world)
     c.read_line-line.ensures.value c.tell-told.ensures.rest
-    c.answer_uncounted-outcome.ensures.demonstrated
+    c.answer-outcome.ensures.demonstrated
 
 pub returns-clause-replays : goal.returns-clause-replays
 returns-clause-replays g c =
@@ -78,18 +78,18 @@ returns-clause-passed g c =
 pub returns-clause-unfaulted : goal.returns-clause-unfaulted
 returns-clause-unfaulted g c = λ r asks run.
     unfaulted-told (seen_line c.read_line-line.result) (line_in c.args.words.now)
-    (g.W.World.ledger c.args.world.now) (g.W.World.ledger c.answer_uncounted-outcome.new.world)
+    (g.W.World.ledger c.args.world.now) (g.W.World.ledger c.answer-outcome.new.world)
     (g.W.World.ledger c.tell-told.new.world)
-    c.answer_uncounted-outcome.result c.tell-told.result c.status.result
+    c.answer-outcome.result c.tell-told.result c.status.result
     c.read_line-line.ensures.value c.tell-told.ensures.rest c.tell-told.ensures.which
-    c.answer_uncounted-outcome.ensures.cause
-    c.answer_uncounted-outcome.ensures.kept c.status.ensures r asks run
+    c.answer-outcome.ensures.cause
+    c.answer-outcome.ensures.kept c.status.ensures r asks run
 
 pub returns-clause-sinks : goal.returns-clause-sinks
 returns-clause-sinks g c =
     told-sinks (seen_line c.read_line-line.result) (line_in c.args.words.now)
-    (g.W.World.ledger c.args.world.now) (g.W.World.ledger c.answer_uncounted-outcome.new.world)
+    (g.W.World.ledger c.args.world.now) (g.W.World.ledger c.answer-outcome.new.world)
     (g.W.World.ledger c.tell-told.new.world)
-    c.read_line-line.ensures.value c.answer_uncounted-outcome.ensures.rest c.tell-told.ensures.rest
-    c.answer_uncounted-outcome.ensures.named_log c.answer_uncounted-outcome.ensures.named_console
+    c.read_line-line.ensures.value c.answer-outcome.ensures.rest c.tell-told.ensures.rest
+    c.answer-outcome.ensures.named_log c.answer-outcome.ensures.named_console
     c.tell-told.ensures.named

@@ -1,4 +1,4 @@
 use Rattle.rrvm.proofs.top.rrvm_quiet.Given as goal
 
-abbrev pub ghosts-answer_uncounted : goal.ghosts-answer_uncounted
-ghosts-answer_uncounted g a = record { name = a.blank.name; parts = a.blank.parts }
+abbrev pub ghosts-answer : goal.ghosts-answer
+ghosts-answer g a = record { name = a.blank.name; parts = a.blank.parts }
