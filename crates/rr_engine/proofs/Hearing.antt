@@ -1,5 +1,5 @@
 -- The console's input over parts of a recording.
-use Rattle.std.proofs.Common.{◌≡◌, ℕ, ◌+◌, ◌-◌, ◌^◌, Bool, true, false, List, [], ◌∷◌, ◌++◌, length, take, refl, sym, ap, ◌∙◌, subst, append_assoc, append-nil, inl, inr, arith}
+use Rattle.std.proofs.Common.{◌≡◌, ℕ, ◌+◌, ◌-◌, ◌^◌, Bool, true, List, [], ◌∷◌, ◌++◌, length, take, refl, sym, ap, ◌∙◌, subst, append_assoc, append-nil, inl, inr, arith}
 use Rattle.std.specs.Prelude.{◌⊎◌, Some, None, IfSome, option_map}
 use Rattle.std.specs.declared.option.Option.{Option}
 use Rattle.std.specs.Io.KnownBytes.{Consumes, Keeps, IsAtEnd}
@@ -8,7 +8,7 @@ use Rattle.std.proofs.Math.Seq.{take-append-add, take-nil}
 use Rattle.event_log.specs.declared.event.Event.{Event}
 use Rattle.event_log.specs.declared.event.Event.TheVariants as event
 use Rattle.io_workers.specs.Intake.{Intake, Progress, IsOver, Gives, Ends}
-use Rattle.rr_engine.specs.Input.{typed_by, typed, unread, IsPaid, Hears, Heard, Read}
+use Rattle.rr_engine.specs.Input.{Extent, Entire, Part, Debt, Owed, Paid, typed_by, typed, unread, IsPaid, Hears, Heard, Read}
 
 -- ---- lists of events
 
@@ -17,12 +17,12 @@ typed-append [] fs = refl
 typed-append (e ∷ es) fs =
     ap (λ z. typed_by e ++ z) (typed-append es fs) ∙ sym (append_assoc (typed_by e) (typed es) (typed fs))
 
-not-owed : false ≡ true → ⊥
+not-owed : Paid ≡ Owed → ⊥
 not-owed e = cc
 
 -- where nothing is owed, it may be said that a piece is
-hears-paid : (w o : Bool) (fs : List Event) (left rest : List ℕ) → IsPaid o left
-    → Hears w false left fs rest → Hears w o left fs rest
+hears-paid : (w : Extent) (o : Debt) (fs : List Event) (left rest : List ℕ) → IsPaid o left
+    → Hears w Paid left fs rest → Hears w o left fs rest
 hears-paid w o [] left rest paid h = (λ whole. paid, h.1)
 hears-paid w o (event.CharRead bytes ∷ fs) left rest paid h = absurd (not-owed h.0)
 hears-paid w o (event.Block id ok ∷ fs) left rest paid h = absurd h
@@ -34,126 +34,135 @@ hears-paid w o (event.Interrupt ∷ fs) left rest paid h = (paid, h.1)
 hears-paid w o (event.Exception ∷ fs) left rest paid h = (paid, h.1)
 hears-paid w o (event.Clock value ∷ fs) left rest paid h = (paid, h.1)
 
-pub hears-then : (w o : Bool) (es fs : List Event) (left mid rest : List ℕ) → Hears true o left es mid
-    → Hears w false mid fs rest → Hears w o left (es ++ fs) rest
+pub hears-then : (w : Extent) (o : Debt) (es fs : List Event) (left mid rest : List ℕ)
+    → Hears Entire o left es mid
+    → Hears w Paid mid fs rest → Hears w o left (es ++ fs) rest
 hears-then w o [] fs left mid rest a b =
-    hears-paid w o fs left rest (a.0 refl) (subst (λ (z : List ℕ). Hears w false z fs rest) (sym a.1) b)
+    hears-paid w o fs left rest (a.0 refl)
+    (subst (λ (z : List ℕ). Hears w Paid z fs rest) (sym a.1) b)
 hears-then w o (event.CharRead bytes ∷ es) fs left mid rest a b =
-    (a.0, a.1, a.2, hears-then w false es fs a.1 mid rest a.3 b)
+    (a.0, a.1, a.2, hears-then w Paid es fs a.1 mid rest a.3 b)
 hears-then w o (event.Block id ok ∷ es) fs left mid rest a b = absurd a
 hears-then w o (event.Net packet ∷ es) fs left mid rest a b = absurd a
 hears-then w o (event.Checkpoint idle ∷ es) fs left mid rest a b =
-    (a.0, hears-then w true es fs left mid rest a.1 b)
+    (a.0, hears-then w Owed es fs left mid rest a.1 b)
 hears-then w o (event.End reason code ∷ es) fs left mid rest a b =
-    (λ whole. a.0 refl, hears-then w false es fs left mid rest a.1 b)
+    (λ whole. a.0 refl, hears-then w Paid es fs left mid rest a.1 b)
 hears-then w o (event.Instruction n ∷ es) fs left mid rest a b =
-    (a.0, hears-then w false es fs left mid rest a.1 b)
+    (a.0, hears-then w Paid es fs left mid rest a.1 b)
 hears-then w o (event.Interrupt ∷ es) fs left mid rest a b =
-    (a.0, hears-then w false es fs left mid rest a.1 b)
+    (a.0, hears-then w Paid es fs left mid rest a.1 b)
 hears-then w o (event.Exception ∷ es) fs left mid rest a b =
-    (a.0, hears-then w false es fs left mid rest a.1 b)
+    (a.0, hears-then w Paid es fs left mid rest a.1 b)
 hears-then w o (event.Clock value ∷ es) fs left mid rest a b =
-    (a.0, hears-then w false es fs left mid rest a.1 b)
+    (a.0, hears-then w Paid es fs left mid rest a.1 b)
 
 -- a whole recording may be called broken off
-pub hears-weak : (o : Bool) (es : List Event) (left rest : List ℕ) → Hears true o left es rest
-    → Hears false o left es rest
+pub hears-weak : (o : Debt) (es : List Event) (left rest : List ℕ) → Hears Entire o left es rest
+    → Hears Part o left es rest
 hears-weak o [] left rest a = (λ whole. absurd cc, a.1)
-hears-weak o (event.CharRead bytes ∷ es) left rest a = (a.0, a.1, a.2, hears-weak false es a.1 rest a.3)
+hears-weak o (event.CharRead bytes ∷ es) left rest a =
+    (a.0, a.1, a.2, hears-weak Paid es a.1 rest a.3)
 hears-weak o (event.Block id ok ∷ es) left rest a = absurd a
 hears-weak o (event.Net packet ∷ es) left rest a = absurd a
-hears-weak o (event.Checkpoint idle ∷ es) left rest a = (a.0, hears-weak true es left rest a.1)
+hears-weak o (event.Checkpoint idle ∷ es) left rest a = (a.0, hears-weak Owed es left rest a.1)
 hears-weak o (event.End reason code ∷ es) left rest a =
-    (λ whole. a.0 refl, hears-weak false es left rest a.1)
-hears-weak o (event.Instruction n ∷ es) left rest a = (a.0, hears-weak false es left rest a.1)
-hears-weak o (event.Interrupt ∷ es) left rest a = (a.0, hears-weak false es left rest a.1)
-hears-weak o (event.Exception ∷ es) left rest a = (a.0, hears-weak false es left rest a.1)
-hears-weak o (event.Clock value ∷ es) left rest a = (a.0, hears-weak false es left rest a.1)
+    (λ whole. a.0 refl, hears-weak Paid es left rest a.1)
+hears-weak o (event.Instruction n ∷ es) left rest a = (a.0, hears-weak Paid es left rest a.1)
+hears-weak o (event.Interrupt ∷ es) left rest a = (a.0, hears-weak Paid es left rest a.1)
+hears-weak o (event.Exception ∷ es) left rest a = (a.0, hears-weak Paid es left rest a.1)
+hears-weak o (event.Clock value ∷ es) left rest a = (a.0, hears-weak Paid es left rest a.1)
 
 -- the bytes of the events come first
-pub hears-typed : (w o : Bool) (es : List Event) (left rest : List ℕ) → Hears w o left es rest
+pub hears-typed : (w : Extent) (o : Debt) (es : List Event) (left rest : List ℕ)
+    → Hears w o left es rest
     → left ≡ typed es ++ rest
 hears-typed w o [] left rest a = a.1
 hears-typed w o (event.CharRead bytes ∷ es) left rest a =
-    a.2 ∙ ap (λ z. bytes ++ z) (hears-typed w false es a.1 rest a.3) ∙ sym (append_assoc bytes (typed es) rest)
+    a.2 ∙ ap (λ z. bytes ++ z) (hears-typed w Paid es a.1 rest a.3)
+    ∙ sym (append_assoc bytes (typed es) rest)
 hears-typed w o (event.Block id ok ∷ es) left rest a = absurd a
 hears-typed w o (event.Net packet ∷ es) left rest a = absurd a
-hears-typed w o (event.Checkpoint idle ∷ es) left rest a = hears-typed w true es left rest a.1
-hears-typed w o (event.End reason code ∷ es) left rest a = hears-typed w false es left rest a.1
-hears-typed w o (event.Instruction n ∷ es) left rest a = hears-typed w false es left rest a.1
-hears-typed w o (event.Interrupt ∷ es) left rest a = hears-typed w false es left rest a.1
-hears-typed w o (event.Exception ∷ es) left rest a = hears-typed w false es left rest a.1
-hears-typed w o (event.Clock value ∷ es) left rest a = hears-typed w false es left rest a.1
+hears-typed w o (event.Checkpoint idle ∷ es) left rest a = hears-typed w Owed es left rest a.1
+hears-typed w o (event.End reason code ∷ es) left rest a = hears-typed w Paid es left rest a.1
+hears-typed w o (event.Instruction n ∷ es) left rest a = hears-typed w Paid es left rest a.1
+hears-typed w o (event.Interrupt ∷ es) left rest a = hears-typed w Paid es left rest a.1
+hears-typed w o (event.Exception ∷ es) left rest a = hears-typed w Paid es left rest a.1
+hears-typed w o (event.Clock value ∷ es) left rest a = hears-typed w Paid es left rest a.1
 
 -- the first of the events hear the first of the input
-pub hears-front : (w o : Bool) (es fs : List Event) (left rest : List ℕ) → Hears w o left (es ++ fs) rest
-    → (more : List ℕ) × Hears false o left es more
+pub hears-front : (w : Extent) (o : Debt) (es fs : List Event) (left rest : List ℕ)
+    → Hears w o left (es ++ fs) rest
+    → (more : List ℕ) × Hears Part o left es more
 hears-front w o [] fs left rest a = (left, (λ whole. absurd cc, refl))
 hears-front w o (event.CharRead bytes ∷ es) fs left rest a =
-    let more = hears-front w false es fs a.1 rest a.3 in (more.0, (a.0, a.1, a.2, more.1))
+    let more = hears-front w Paid es fs a.1 rest a.3 in (more.0, (a.0, a.1, a.2, more.1))
 hears-front w o (event.Block id ok ∷ es) fs left rest a = absurd a
 hears-front w o (event.Net packet ∷ es) fs left rest a = absurd a
 hears-front w o (event.Checkpoint idle ∷ es) fs left rest a =
-    let more = hears-front w true es fs left rest a.1 in (more.0, (a.0, more.1))
+    let more = hears-front w Owed es fs left rest a.1 in (more.0, (a.0, more.1))
 hears-front w o (event.End reason code ∷ es) fs left rest a =
-    let more = hears-front w false es fs left rest a.1 in (more.0, (λ whole. absurd cc, more.1))
+    let more = hears-front w Paid es fs left rest a.1 in (more.0, (λ whole. absurd cc, more.1))
 hears-front w o (event.Instruction n ∷ es) fs left rest a =
-    let more = hears-front w false es fs left rest a.1 in (more.0, (a.0, more.1))
+    let more = hears-front w Paid es fs left rest a.1 in (more.0, (a.0, more.1))
 hears-front w o (event.Interrupt ∷ es) fs left rest a =
-    let more = hears-front w false es fs left rest a.1 in (more.0, (a.0, more.1))
+    let more = hears-front w Paid es fs left rest a.1 in (more.0, (a.0, more.1))
 hears-front w o (event.Exception ∷ es) fs left rest a =
-    let more = hears-front w false es fs left rest a.1 in (more.0, (a.0, more.1))
+    let more = hears-front w Paid es fs left rest a.1 in (more.0, (a.0, more.1))
 hears-front w o (event.Clock value ∷ es) fs left rest a =
-    let more = hears-front w false es fs left rest a.1 in (more.0, (a.0, more.1))
+    let more = hears-front w Paid es fs left rest a.1 in (more.0, (a.0, more.1))
 
 -- ---- sources that may tell nothing
 
-pub heard-then : (w o : Bool) (a b c : Option (List ℕ)) (es fs : List Event) → Heard true o a es b
-    → Heard w false b fs c → Heard w o a (es ++ fs) c
+pub heard-then : (w : Extent) (o : Debt) (a b c : Option (List ℕ)) (es fs : List Event)
+    → Heard Entire o a es b
+    → Heard w Paid b fs c → Heard w o a (es ++ fs) c
 heard-then w o None b c es fs p q = tt
 heard-then w o (Some x) None c es fs p q = absurd p
 heard-then w o (Some x) (Some y) None es fs p q = absurd q
-heard-then true o (Some x) (Some y) (Some z) es fs p q = hears-then true o es fs x y z p q
-heard-then false o (Some x) (Some y) (Some z) es fs p q =
-    (q.0, hears-then false o es fs x y (q.0 ++ z) p q.1)
+heard-then Entire o (Some x) (Some y) (Some z) es fs p q = hears-then Entire o es fs x y z p q
+heard-then Part o (Some x) (Some y) (Some z) es fs p q =
+    (q.0, hears-then Part o es fs x y (q.0 ++ z) p q.1)
 
-pub heard-none : (w o : Bool) (a : Option (List ℕ)) → (w ≡ true → o ≡ false) → Heard w o a [] a
+pub heard-none : (w : Extent) (o : Debt) (a : Option (List ℕ)) → (w ≡ Entire → o ≡ Paid)
+    → Heard w o a [] a
 heard-none w o None paid = tt
-heard-none true o (Some x) paid = (λ whole same. absurd (never (sym same ∙ paid refl)), refl)
-  where
-    never : true ≡ false → ⊥
-    never e = cc
-heard-none false o (Some x) paid = ([], (λ whole. absurd cc, refl))
+heard-none Entire Owed (Some x) paid = (λ whole. absurd (not-owed (sym (paid refl))), refl)
+heard-none Entire Paid (Some x) paid = (λ whole. tt, refl)
+heard-none Part o (Some x) paid = ([], (λ whole. absurd cc, refl))
 
-pub heard-weak : (o : Bool) (a b : Option (List ℕ)) (es : List Event) → Heard true o a es b
-    → Heard false o a es b
+pub heard-weak : (o : Debt) (a b : Option (List ℕ)) (es : List Event) → Heard Entire o a es b
+    → Heard Part o a es b
 heard-weak o None b es p = tt
 heard-weak o (Some x) None es p = absurd p
 heard-weak o (Some x) (Some y) es p = ([], hears-weak o es x y p)
 
 -- events that no one took give back their part
-pub heard-lost : (o : Bool) (a b : Option (List ℕ)) (es : List Event) → Heard true o a es b
-    → Heard false o a [] b
+pub heard-lost : (o : Debt) (a b : Option (List ℕ)) (es : List Event) → Heard Entire o a es b
+    → Heard Part o a [] b
 heard-lost o None b es p = tt
 heard-lost o (Some x) None es p = absurd p
-heard-lost o (Some x) (Some y) es p = (typed es, (λ whole. absurd cc, hears-typed true o es x y p))
+heard-lost o (Some x) (Some y) es p =
+    (typed es, (λ whole. absurd cc, hears-typed Entire o es x y p))
 
 -- a checkpoint opens a window that owes its piece
-pub heard-opened : (w : Bool) (idle : Bool) (a c : Option (List ℕ)) (fs : List Event) → Heard w true a fs c
-    → Heard w false a (event.Checkpoint idle ∷ fs) c
+pub heard-opened : (w : Extent) (idle : Bool) (a c : Option (List ℕ)) (fs : List Event)
+    → Heard w Owed a fs c
+    → Heard w Paid a (event.Checkpoint idle ∷ fs) c
 heard-opened w idle None c fs p = tt
 heard-opened w idle (Some x) None fs p = absurd p
-heard-opened true idle (Some x) (Some z) fs p = (λ same. absurd cc, p)
-heard-opened false idle (Some x) (Some z) fs p = (p.0, (λ same. absurd cc, p.1))
+heard-opened Entire idle (Some x) (Some z) fs p = (tt, p)
+heard-opened Part idle (Some x) (Some z) fs p = (p.0, (tt, p.1))
 
 -- what is left at the end is owed no more
-pub heard-over : (a : Option (List ℕ)) → IsAtEnd a → Heard true true a [] a
+pub heard-over : (a : Option (List ℕ)) → IsAtEnd a → Heard Entire Owed a [] a
 heard-over None end = tt
-heard-over (Some x) end = (λ whole same. end, refl)
+heard-over (Some x) end = (λ whole. end, refl)
 
 -- ---- what was read
 
-pub read-then : (w : Bool) (a b c : Option (List ℕ)) (es fs : List Event) → Read true a b es → Read w b c fs
+pub read-then : (w : Extent) (a b c : Option (List ℕ)) (es fs : List Event) → Read Entire a b es
+    → Read w b c fs
     → Read w a c (es ++ fs)
 read-then w a b c es fs p q =
     let first : Consumes a b (typed es) =
@@ -166,13 +175,13 @@ read-then w a b c es fs p q =
       all = q.all;
     }
 
-pub read-none : (w : Bool) (a : Option (List ℕ)) → Read w a a []
+pub read-none : (w : Extent) (a : Option (List ℕ)) → Read w a a []
 read-none w a = record { more = []; gave = Consumes-nil a; all = λ whole. refl }
 
-pub read-weak : (a b : Option (List ℕ)) (es : List Event) → Read true a b es → Read false a b es
+pub read-weak : (a b : Option (List ℕ)) (es : List Event) → Read Entire a b es → Read Part a b es
 read-weak a b es p = record { more = p.more; gave = p.gave; all = λ whole. absurd cc }
 
-pub read-lost : (a b : Option (List ℕ)) (es : List Event) → Read true a b es → Read false a b []
+pub read-lost : (a b : Option (List ℕ)) (es : List Event) → Read Entire a b es → Read Part a b []
 read-lost a b es p = record { more = typed es ++ p.more; gave = p.gave; all = λ whole. absurd cc }
 
 -- ---- one piece
@@ -183,20 +192,20 @@ take-piece : (m n : ℕ) (piece left : List ℕ) → m ≡ length piece + n
 take-piece m n piece left e = ap (λ z. take z (piece ++ left)) e ∙ take-append-add piece left n
 
 piece-heard : (m n : ℕ) (a b : Option (List ℕ)) (piece : List ℕ) → m ≡ length piece + n → Consumes a b piece
-    → Heard true true (option_map (take m) a) (event.CharRead piece ∷ []) (option_map (take n) b)
+    → Heard Entire Owed (option_map (take m) a) (event.CharRead piece ∷ []) (option_map (take n) b)
 piece-heard m n None b piece e ate = tt
 piece-heard m n (Some x) None piece e ate = absurd ate
 piece-heard m n (Some x) (Some y) piece e ate =
-    (refl, take n y, ap (take m) ate ∙ take-piece m n piece y e, (λ whole same. absurd cc, refl))
+    (refl, take n y, ap (take m) ate ∙ take-piece m n piece y e, (λ whole. tt, refl))
 
 pub gives-heard : (old new : Intake) (piece : List ℕ) → Gives old new piece
-    → Heard true true (unread old) (event.CharRead piece ∷ []) (unread new)
+    → Heard Entire Owed (unread old) (event.CharRead piece ∷ []) (unread new)
 gives-heard old new piece g =
     piece-heard (2 ^ 40 - old.progress.count) (2 ^ 40 - new.progress.count) old.left new.left piece
     (omega (arith, g.count, g.within)) g.bytes
 
 pub gives-read : (old new : Intake) (piece : List ℕ) → Gives old new piece
-    → Read true old.left new.left (event.CharRead piece ∷ [])
+    → Read Entire old.left new.left (event.CharRead piece ∷ [])
 gives-read old new piece g = record {
   more = [];
   gave = subst (Consumes old.left new.left) (sym (append-nil (piece ++ []) ∙ append-nil piece)) g.bytes;
@@ -216,7 +225,7 @@ kept-unread old new e k =
     kept-plain (2 ^ 40 - old.progress.count) (2 ^ 40 - new.progress.count) old.left new.left
     (ap (λ z. 2 ^ 40 - z) e) k
 
-pub kept-heard : (w o : Bool) (a b c : Option (List ℕ)) (es : List Event) → Keeps a b
+pub kept-heard : (w : Extent) (o : Debt) (a b c : Option (List ℕ)) (es : List Event) → Keeps a b
     → Heard w o b es c → Heard w o a es c
 kept-heard w o None b c es k h = tt
 kept-heard w o (Some x) None c es k h = absurd k
@@ -228,7 +237,7 @@ kept-consumes (Some x) None c bytes k e = absurd k
 kept-consumes (Some x) (Some y) None bytes k e = absurd e
 kept-consumes (Some x) (Some y) (Some z) bytes k e = sym k ∙ e
 
-pub kept-read : (w : Bool) (a b c : Option (List ℕ)) (es : List Event) → Keeps a b → Read w b c es
+pub kept-read : (w : Extent) (a b c : Option (List ℕ)) (es : List Event) → Keeps a b → Read w b c es
     → Read w a c es
 kept-read w a b c es k r = record {
   more = r.more;
@@ -275,43 +284,50 @@ ends-keeps old new (inl before) =
 ends-keeps old new (inr now) = now.2
 
 pub ends-heard : (old new : Intake) → Ends old new
-    → (old.progress.ended ≡ true → IsAtEnd (unread old)) → Heard true true (unread old) [] (unread new)
+    → (old.progress.ended ≡ true → IsAtEnd (unread old))
+    → Heard Entire Owed (unread old) [] (unread new)
 ends-heard old new e over =
-    kept-heard true true (unread old) (unread new) (unread new) []
+    kept-heard Entire Owed (unread old) (unread new) (unread new) []
     (kept-unread old new (ends-count old new e) (ends-keeps old new e))
     (heard-over (unread new) (ends-over old new e over))
 
-pub ends-read : (old new : Intake) → Ends old new → Read true old.left new.left []
+pub ends-read : (old new : Intake) → Ends old new → Read Entire old.left new.left []
 ends-read old new e =
-    kept-read true old.left new.left new.left [] (ends-keeps old new e) (read-none true new.left)
+    kept-read Entire old.left new.left new.left [] (ends-keeps old new e)
+    (read-none Entire new.left)
 
 -- ---- from the start
 
 -- what a source that wasn't read yet has left to read
-first-told : (n : ℕ) (w : Bool) (a c : Option (List ℕ)) (es : List Event) → Heard w false (option_map (take n) a) es c
-    → IfSome a (λ bytes. (rest : List ℕ) × Hears w false (take n bytes) es rest)
+first-told : (n : ℕ) (w : Extent) (a c : Option (List ℕ)) (es : List Event)
+    → Heard w Paid (option_map (take n) a) es c
+    → IfSome a (λ bytes. (rest : List ℕ) × Hears w Paid (take n bytes) es rest)
 first-told n w None c es h = tt
 first-told n w (Some x) None es h = absurd h
-first-told n true (Some x) (Some z) es h = (z, h)
-first-told n false (Some x) (Some z) es h = (h.0 ++ z, h.1)
+first-told n Entire (Some x) (Some z) es h = (z, h)
+first-told n Part (Some x) (Some z) es h = (h.0 ++ z, h.1)
 
-pub first-heard : (w : Bool) (i : Intake) (c : Option (List ℕ)) (es : List Event) → i.progress.count ≡ 0
-    → Heard w false (unread i) es c
-    → IfSome i.left (λ bytes. (rest : List ℕ) × Hears w false (take (2 ^ 40) bytes) es rest)
+pub first-heard : (w : Extent) (i : Intake) (c : Option (List ℕ)) (es : List Event)
+    → i.progress.count ≡ 0
+    → Heard w Paid (unread i) es c
+    → IfSome i.left (λ bytes. (rest : List ℕ) × Hears w Paid (take (2 ^ 40) bytes) es rest)
 first-heard w i c es none h =
     first-told (2 ^ 40) w i.left c es
-    (subst (λ (z : ℕ). Heard w false (option_map (take (2 ^ 40 - z)) i.left) es c) none h)
+    (subst (λ (z : ℕ). Heard w Paid (option_map (take (2 ^ 40 - z)) i.left) es c) none h)
 
 -- where nothing is left, the events have all
-all-told : (n : ℕ) (a c : Option (List ℕ)) (es : List Event) → Heard true false (option_map (take n) a) es c → IsAtEnd c
+all-told : (n : ℕ) (a c : Option (List ℕ)) (es : List Event)
+    → Heard Entire Paid (option_map (take n) a) es c → IsAtEnd c
     → IfSome a (λ bytes. typed es ≡ take n bytes)
 all-told n None c es h end = tt
 all-told n (Some x) None es h end = absurd h
 all-told n (Some x) (Some z) es h end =
-    sym (hears-typed true false es (take n x) z h ∙ ap (λ y. typed es ++ y) end ∙ append-nil (typed es))
+    sym (hears-typed Entire Paid es (take n x) z h ∙ ap (λ y. typed es ++ y) end
+    ∙ append-nil (typed es))
 
 pub all-heard : (i : Intake) (c : Option (List ℕ)) (es : List Event) → i.progress.count ≡ 0
-    → Heard true false (unread i) es c → IsAtEnd c → IfSome i.left (λ bytes. typed es ≡ take (2 ^ 40) bytes)
+    → Heard Entire Paid (unread i) es c → IsAtEnd c
+    → IfSome i.left (λ bytes. typed es ≡ take (2 ^ 40) bytes)
 all-heard i c es none h end =
     all-told (2 ^ 40) i.left c es
-    (subst (λ (z : ℕ). Heard true false (option_map (take (2 ^ 40 - z)) i.left) es c) none h) end
+    (subst (λ (z : ℕ). Heard Entire Paid (option_map (take (2 ^ 40 - z)) i.left) es c) none h) end

@@ -1,5 +1,5 @@
 -- Parts of a recording, one after another.
-use Rattle.std.proofs.Common.{◌≡◌, ℕ, Bool, true, false, List, [], ◌∷◌, ◌++◌, refl, sym, ap, ◌∙◌, subst, append_assoc, append-nil}
+use Rattle.std.proofs.Common.{◌≡◌, ℕ, false, List, [], ◌∷◌, ◌++◌, refl, sym, ap, ◌∙◌, subst, append_assoc, append-nil}
 use Rattle.std.specs.Prelude.{Some, None, Result, Ok, Err}
 use Rattle.std.specs.declared.option.Option.{Option}
 use Rattle.std.specs.List.{AllByRecursion}
@@ -16,7 +16,7 @@ use Rattle.board.proofs.TakenLaws.{run-with}
 use Rattle.rr_engine.specs.declared.parts.Break.{Break}
 use Rattle.rr_engine.specs.declared.parts.Break.TheVariants.{ConsoleRead, ConsoleWrite, LogWrite, NoMemory}
 use Rattle.rr_engine.specs.Stand.{Stand}
-use Rattle.rr_engine.specs.Input.{unread, Heard, Read}
+use Rattle.rr_engine.specs.Input.{Extent, Entire, Part, Debt, Paid, unread, Heard, Read}
 use Rattle.rr_engine.specs.Recording.{clock_value, clock_values, Took, Appended, Logged, Gave, Counted, Recorded, IsLogged, Broke, Goes}
 use Rattle.rr_engine.proofs.Hearing.{heard-then, heard-none, read-then, read-none}
 
@@ -77,16 +77,18 @@ values-append (e ∷ es) fs =
 
 -- ---- what devices took and gave
 
-took-then : (w : Bool) (a b c : Option (List ℕ)) (xs ys : List ℕ) → Takes a b xs → Took w b c ys → Took w a c (xs ++ ys)
-took-then true a b c xs ys p q = Takes-trans a b c xs ys p q
-took-then false a b c xs ys p q = TakesFront-after a b c xs ys p q
+took-then : (w : Extent) (a b c : Option (List ℕ)) (xs ys : List ℕ) → Takes a b xs → Took w b c ys
+    → Took w a c (xs ++ ys)
+took-then Entire a b c xs ys p q = Takes-trans a b c xs ys p q
+took-then Part a b c xs ys p q = TakesFront-after a b c xs ys p q
 
 -- what is written and held, and more that joins
 regroup : (w m o xs ys : List ℕ) → w ++ m ≡ o ++ xs → w ++ (m ++ ys) ≡ o ++ (xs ++ ys)
 regroup w m o xs ys e = sym (append_assoc w m ys) ∙ ap (λ z. z ++ ys) e ∙ append_assoc o xs ys
 
-logged-then : (w : Bool) (o m n : Writer) (xs ys : List ℕ) → Appended o m xs → Logged w m n ys → Logged w o n (xs ++ ys)
-logged-then true o m n xs ys p q = record {
+logged-then : (w : Extent) (o m n : Writer) (xs ys : List ℕ) → Appended o m xs → Logged w m n ys
+    → Logged w o n (xs ++ ys)
+logged-then Entire o m n xs ys p q = record {
   written = p.written ++ q.written;
   taken = Takes-trans o.taken m.taken n.taken p.written q.written p.taken q.taken;
   whole =
@@ -95,11 +97,12 @@ logged-then true o m n xs ys p q = record {
       ∙ regroup p.written m.unsent.held o.unsent.held xs ys p.whole;
   works = q.works;
 }
-logged-then false o m n xs ys p q =
+logged-then Part o m n xs ys p q =
     subst (TakesFront o.taken n.taken) (regroup p.written m.unsent.held o.unsent.held xs ys p.whole)
     (TakesFront-after o.taken m.taken n.taken p.written (m.unsent.held ++ ys) p.taken q)
 
-gave-then : (w : Bool) (a b c : Option (List ℕ)) (xs ys : List ℕ) → Gave true a b xs → Gave w b c ys → Gave w a c (xs ++ ys)
+gave-then : (w : Extent) (a b c : Option (List ℕ)) (xs ys : List ℕ) → Gave Entire a b xs
+    → Gave w b c ys → Gave w a c (xs ++ ys)
 gave-then w a b c xs ys p q =
     let first : Takes a b xs = subst (Takes a b) (ap (λ z. xs ++ z) (p.all refl) ∙ append-nil xs) p.gave in
     record {
@@ -108,19 +111,19 @@ gave-then w a b c xs ys p q =
       all = q.all;
     }
 
-counted-then : (w : Bool) (a b c : ℕ) → Counted true a b → Counted w b c → Counted w a c
-counted-then true a b c p q = q ∙ p
-counted-then false a b c p q = tt
+counted-then : (w : Extent) (a b c : ℕ) → Counted Entire a b → Counted w b c → Counted w a c
+counted-then Entire a b c p q = q ∙ p
+counted-then Part a b c p q = tt
 
 -- ---- the recording
 
 pub appended-none : (w : Writer) → w.unsent.failed ≡ false → Appended w w []
 appended-none w works = record { written = []; taken = Takes-refl w.taken; whole = sym (append-nil w.unsent.held); works = works }
 
-pub gave-none : (w : Bool) (a : Option (List ℕ)) → Gave w a a []
+pub gave-none : (w : Extent) (a : Option (List ℕ)) → Gave w a a []
 gave-none w a = record { more = []; gave = Takes-refl a; all = λ e. refl }
 
-pub recorded-none : (p : Stand) → p.log.unsent.failed ≡ false → Recorded true false p p
+pub recorded-none : (p : Stand) → p.log.unsent.failed ≡ false → Recorded Entire Paid p p
 recorded-none p works = record {
   events = [];
   bytes = [];
@@ -132,14 +135,14 @@ recorded-none p works = record {
   log_faults = refl;
   console = Takes-refl p.console;
   console_faults = refl;
-  read = read-none true p.input.left;
-  heard = heard-none true false (unread p.input) (λ whole. refl);
+  read = read-none Entire p.input.left;
+  heard = heard-none Entire Paid (unread p.input) (λ whole. refl);
   input_faults = refl;
-  clock = gave-none true p.gave;
+  clock = gave-none Entire p.gave;
 }
 
 -- a part of a recording after which another may come; a window may owe its piece before and after
-pub record Begun (owed owed' : Bool) (p q : Stand) : Type 0 where
+pub record Begun (debt debt' : Debt) (p q : Stand) : Type 0 where
   pub events : List Event
   pub bytes : List ℕ
   pub are : AllByRecursion IsEvent events
@@ -148,14 +151,15 @@ pub record Begun (owed owed' : Bool) (p q : Stand) : Type 0 where
   pub log_faults : q.log.faults ≡ p.log.faults
   pub console : Takes p.console q.console bytes
   pub console_faults : q.console_faults ≡ p.console_faults
-  pub read : Read true p.input.left q.input.left events
-  pub heard : (w : Bool) (es : List Event) (c : Option (List ℕ)) → Heard w owed' (unread q.input) es c
-      → Heard w owed (unread p.input) (events ++ es) c
+  pub read : Read Entire p.input.left q.input.left events
+  pub heard : (w : Extent) (es : List Event) (c : Option (List ℕ))
+      → Heard w debt' (unread q.input) es c
+      → Heard w debt (unread p.input) (events ++ es) c
   pub input_faults : q.input.faults ≡ p.input.faults
-  pub clock : Gave true p.gave q.gave (clock_values events)
+  pub clock : Gave Entire p.gave q.gave (clock_values events)
 
 -- a whole recording is one
-pub begun : (o : Bool) (p q : Stand) → Recorded true o p q → Begun o false p q
+pub begun : (o : Debt) (p q : Stand) → Recorded Entire o p q → Begun o Paid p q
 begun o p q a = record {
   events = a.events;
   bytes = a.bytes;
@@ -171,7 +175,8 @@ begun o p q a = record {
   clock = a.clock;
 }
 
-pub begun-then : (w o o' : Bool) (p q r : Stand) → Begun o o' p q → Recorded w o' q r → Recorded w o p r
+pub begun-then : (w : Extent) (o o' : Debt) (p q r : Stand) → Begun o o' p q → Recorded w o' q r
+    → Recorded w o p r
 begun-then w o o' p q r a b = record {
   events = a.events ++ b.events;
   bytes = a.bytes ++ b.bytes;
@@ -192,11 +197,13 @@ begun-then w o o' p q r a b = record {
       (gave-then w p.gave q.gave r.gave (clock_values a.events) (clock_values b.events) a.clock b.clock);
 }
 
-pub recorded-then : (w o : Bool) (p q r : Stand) → Recorded true o p q → Recorded w false q r → Recorded w o p r
-recorded-then w o p q r a b = begun-then w o false p q r (begun o p q a) b
+pub recorded-then : (w : Extent) (o : Debt) (p q r : Stand) → Recorded Entire o p q
+    → Recorded w Paid q r → Recorded w o p r
+recorded-then w o p q r a b = begun-then w o Paid p q r (begun o p q a) b
 
 -- what was recorded, and then all of the rest
-logged-after : (shown o o' : Bool) (p q r : Stand) → Begun o o' p q → IsLogged shown o' q r → IsLogged shown o p r
+logged-after : (shown : Extent) (o o' : Debt) (p q r : Stand) → Begun o o' p q
+    → IsLogged shown o' q r → IsLogged shown o p r
 logged-after shown o o' p q r a b = record {
   events = a.events ++ b.events;
   bytes = a.bytes ++ b.bytes;
@@ -214,32 +221,36 @@ logged-after shown o o' p q r a b = record {
       (q.log.unsent.held ++ texts b.events) a.log.taken b.log));
   console = took-then shown p.console q.console r.console a.bytes b.bytes a.console b.console;
   all = b.all;
-  read = read-then false p.input.left q.input.left r.input.left a.events b.events a.read b.read;
-  heard = a.heard false b.events (unread r.input) b.heard;
-  clock = subst (Gave false p.gave r.gave) (sym (values-append a.events b.events))
-      (gave-then false p.gave q.gave r.gave (clock_values a.events) (clock_values b.events)
+  read = read-then Part p.input.left q.input.left r.input.left a.events b.events a.read b.read;
+  heard = a.heard Part b.events (unread r.input) b.heard;
+  clock = subst (Gave Part p.gave r.gave) (sym (values-append a.events b.events))
+      (gave-then Part p.gave q.gave r.gave (clock_values a.events) (clock_values b.events)
       a.clock b.clock);
 }
 
-broke-then : (o o' : Bool) (p q r : Stand) (b : Break) → Begun o o' p q → Broke o' q r b → Broke o p r b
+broke-then : (o o' : Debt) (p q r : Stand) (b : Break) → Begun o o' p q → Broke o' q r b
+    → Broke o p r b
 broke-then o o' p q r ConsoleRead a h =
     let P : ℕ → Type 0 = λ n. Rose n r.input.faults in
     let Q : ℕ → Type 0 = λ n. Stood n r.log.faults in (
       subst P a.input_faults h.0,
-      λ stood. logged-after true o o' p q r a (h.1 (subst Q (sym a.log_faults) stood)),
+      λ stood. logged-after Entire o o' p q r a (h.1 (subst Q (sym a.log_faults) stood)),
     )
 broke-then o o' p q r ConsoleWrite a h =
     let P : ℕ → Type 0 = λ n. Rose n r.console_faults in
     let Q : ℕ → Type 0 = λ n. Stood n r.log.faults in (
       subst P a.console_faults h.0,
-      λ stood. logged-after false o o' p q r a (h.1 (subst Q (sym a.log_faults) stood)),
+      λ stood. logged-after Part o o' p q r a (h.1 (subst Q (sym a.log_faults) stood)),
     )
 broke-then o o' p q r LogWrite a h = let P : ℕ → Type 0 = λ n. Rose n r.log.faults in subst P a.log_faults h
 broke-then o o' p q r NoMemory a h = tt
 
-pub begun-goes : (o o' : Bool) (p q r : Stand) (x : Result (Unit {0}) Break) → Begun o o' p q → Goes o' q r x → Goes o p r x
-begun-goes o o' p q r (Ok done) a h = begun-then true o o' p q r a h
-begun-goes o o' p q r (Err b) a h = (begun-then false o o' p q r a h.0, broke-then o o' p q r b a h.1)
+pub begun-goes : (o o' : Debt) (p q r : Stand) (x : Result (Unit {0}) Break) → Begun o o' p q
+    → Goes o' q r x → Goes o p r x
+begun-goes o o' p q r (Ok done) a h = begun-then Entire o o' p q r a h
+begun-goes o o' p q r (Err b) a h =
+    (begun-then Part o o' p q r a h.0, broke-then o o' p q r b a h.1)
 
-pub goes-then : (o : Bool) (p q r : Stand) (x : Result (Unit {0}) Break) → Recorded true o p q → Goes false q r x → Goes o p r x
-goes-then o p q r x a h = begun-goes o false p q r x (begun o p q a) h
+pub goes-then : (o : Debt) (p q r : Stand) (x : Result (Unit {0}) Break) → Recorded Entire o p q
+    → Goes Paid q r x → Goes o p r x
+goes-then o p q r x a h = begun-goes o Paid p q r x (begun o p q a) h

@@ -21,7 +21,7 @@ use Rattle.board.specs.Taken.{without_out}
 use Rattle.rr_engine.specs.declared.parts.Break.{Break}
 use Rattle.rr_engine.specs.declared.parts.Break.TheVariants.{ConsoleRead, ConsoleWrite, LogWrite, NoMemory}
 use Rattle.rr_engine.specs.declared.recorder.Recorder.{Recorder}
-use Rattle.rr_engine.specs.Input.{unread}
+use Rattle.rr_engine.specs.Input.{Entire, Owed, Paid, unread}
 use Rattle.rr_engine.specs.Stand.{Stand, Devices, stand}
 use Rattle.rr_engine.specs.Work.{work, work_left}
 use Rattle.rr_engine.specs.Recording.{Recorded, Goes, Enters, Notes, Shows, IsOwed, IsOwn, IsOwnEnd, EndsByItself, Rests, clock_value}
@@ -46,17 +46,17 @@ entered-works p q e (Err b) en = tt
 
 -- an event without a value, from the stand at which it was entered
 pub entered-goes : (p q : Stand) (e : Event) (x : Result (Unit {0}) Break) → IsEvent e → clock_value e ≡ [] → IsPlain e
-    → Enters p q e x → Goes false p q x
+    → Enters p q e x → Goes Paid p q x
 entered-goes p q e x is none plain en =
-    entered p q false p.input p.gave e x is
+    entered p q Paid p.input p.gave e x is
     (had p p.gave e (plain-leaves e plain) (subst (λ (z : List ℕ). Takes p.gave p.gave z) (sym none) (Takes-refl p.gave)))
     (plain-heard e (unread p.input) plain) en
 
 -- a checkpoint that wasn't entered
 pub unopened : (p q : Stand) (idle : Bool) (b : Break) → Enters p q (event.Checkpoint idle) (Err b)
-    → Goes false p q (Err b)
+    → Goes Paid p q (Err b)
 unopened p q idle b en =
-    unentered p q false p.input p.gave (event.Checkpoint idle) b tt
+    unentered p q Paid p.input p.gave (event.Checkpoint idle) b tt
     (had p p.gave (event.Checkpoint idle) tt (Takes-refl p.gave)) en
 
 pub entered-falls : (p q : Stand) (e : Event) (x : Result (Unit {0}) Break) → IsOwn e → Counts p.machine.control p.machine.devices.time
@@ -84,11 +84,13 @@ turns-progress p q bytes (Err b) g n h = tt
 -- the clock gave a value, and its event was entered
 pub clock-goes : (r : Recorder) (d d' : Devices) (q : Stand) (value : ℕ) (x : Result (Unit {0}) Break)
     → d' ≡ record d { gave = d'.gave } → Takes d.gave d'.gave (value ∷ []) → IsEvent (event.Clock value)
-    → Enters (stand r d') q (event.Clock value) x → Goes false (stand r d) q x
+    → Enters (stand r d') q (event.Clock value) x → Goes Paid (stand r d) q x
 clock-goes r d d' q value x rest t is en =
     let p = stand r d' in
-    subst (λ (z : Stand). Goes false z q x) (ap (λ (z : Devices). record (stand r z) { gave = d.gave }) rest)
-    (entered p q false p.input d.gave (event.Clock value) x is (had p d.gave (event.Clock value) tt t)
+    subst (λ (z : Stand). Goes Paid z q x)
+    (ap (λ (z : Devices). record (stand r z) { gave = d.gave }) rest)
+    (entered p q Paid p.input d.gave (event.Clock value) x is
+    (had p d.gave (event.Clock value) tt t)
     (plain-heard (event.Clock value) (unread p.input) tt) en)
 
 -- what the console's bytes leave of the work and of the end
@@ -115,9 +117,11 @@ conclude-falls p q r reason code (Ok done) s counts going en =
 conclude-falls p q r reason code (Err b) s counts going en = tt
 
 pub conclude-goes : (p q r : Stand) (reason code : ℕ) (x : Result (Unit {0}) Break) → p.log.unsent.failed ≡ false → Shows p q (Ok tt)
-    → IsOwed q.machine (event.End reason code) → Enters q r (event.End reason code) x → Goes false p r x
+    → IsOwed q.machine (event.End reason code) → Enters q r (event.End reason code) x
+    → Goes Paid p r x
 conclude-goes p q r reason code x works s owed en =
-    begun-goes false false p q r x (shown false p q works s) (entered-goes q r (event.End reason code) x owed.spelled refl tt en)
+    begun-goes Paid Paid p q r x (shown Paid p q works s)
+    (entered-goes q r (event.End reason code) x owed.spelled refl tt en)
 
 -- ---- the input
 
@@ -347,19 +351,20 @@ pub listened : (r : Recorder) (d d' : Devices) (read : Progress)
 listened r d d' read rest = ap (λ z. stand (record r { pieces = read }) z) rest
 
 pub piece-goes : (p m q : Stand) (piece : List ℕ) (x : Result (Unit {0}) Break) → m ≡ with_input p m.input
-    → IsEvent (event.CharRead piece) → Gives p.input m.input piece → Enters m q (event.CharRead piece) x → Goes true p q x
+    → IsEvent (event.CharRead piece) → Gives p.input m.input piece
+    → Enters m q (event.CharRead piece) x → Goes Owed p q x
 piece-goes p m q piece x same is g en =
-    subst (λ (z : Stand). Goes true z q x) (ap (λ z. with_input z p.input) same)
-    (entered m q true p.input m.gave (event.CharRead piece) x is (had-piece m p.input piece g)
+    subst (λ (z : Stand). Goes Owed z q x) (ap (λ z. with_input z p.input) same)
+    (entered m q Owed p.input m.gave (event.CharRead piece) x is (had-piece m p.input piece g)
     (gives-heard p.input m.input piece g) en)
 
 pub piece-spelled : (old new : Intake) (piece : List ℕ) → Gives old new piece → IsEvent (event.CharRead piece)
 piece-spelled old new piece g = (g.some, g.few)
 
 pub over-goes : (p q : Stand) → q ≡ with_input p q.input → p.log.unsent.failed ≡ false → Ends p.input q.input
-    → (p.input.progress.ended ≡ true → IsAtEnd (unread p.input)) → Recorded true true p q
+    → (p.input.progress.ended ≡ true → IsAtEnd (unread p.input)) → Recorded Entire Owed p q
 over-goes p q same works e over =
-    subst (Recorded true true p) (sym same) (record {
+    subst (Recorded Entire Owed p) (sym same) (record {
       events = [];
       bytes = [];
       last = p.machine;
@@ -373,7 +378,7 @@ over-goes p q same works e over =
       read = ends-read p.input q.input e;
       heard = ends-heard p.input q.input e over;
       input_faults = ends-faults p.input q.input e;
-      clock = gave-none true p.gave;
+      clock = gave-none Entire p.gave;
     })
 
 pub over-left : (g : State) (old new : Intake) → Ends old new → work_left g new.progress ≤ work_left g old.progress
@@ -381,6 +386,8 @@ unfolding work_left
 over-left g old new e = omega (arith, ends-count old new e)
 
 -- memory was refused for a piece
-pub no-piece : (p q : Stand) → q ≡ with_input p q.input → q.input ≡ p.input → Goes true p q (Err NoMemory)
+pub no-piece : (p q : Stand) → q ≡ with_input p q.input → q.input ≡ p.input
+    → Goes Owed p q (Err NoMemory)
 no-piece p q same kept =
-    subst (λ (z : Stand). Goes true p z (Err NoMemory)) (sym (same ∙ ap (with_input p) kept)) (out-of-memory true p p.machine)
+    subst (λ (z : Stand). Goes Owed p z (Err NoMemory)) (sym (same ∙ ap (with_input p) kept))
+    (out-of-memory Owed p p.machine)

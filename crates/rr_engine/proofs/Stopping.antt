@@ -1,5 +1,5 @@
 -- A recording that is stopped.
-use Rattle.std.proofs.Common.{◌≡◌, ℕ, Bool, true, false, arith, List, [], ◌∷◌, ◌++◌, refl, sym, ap, ◌∙◌, subst, append-nil, inl, inr}
+use Rattle.std.proofs.Common.{◌≡◌, ℕ, false, arith, List, [], ◌∷◌, ◌++◌, refl, sym, ap, ◌∙◌, subst, append-nil, inl, inr}
 use Rattle.std.specs.Prelude.{Some, None, Result, Ok, Err}
 use Rattle.std.specs.declared.option.Option.{Option}
 use Rattle.outside.specs.Causes.{Rose, Stood}
@@ -18,7 +18,7 @@ use Rattle.rr_engine.specs.declared.parts.Break.{Break}
 use Rattle.rr_engine.specs.declared.parts.Break.TheVariants.{ConsoleRead, ConsoleWrite, LogWrite, NoMemory}
 use Rattle.io_workers.specs.Intake.{Intake}
 use Rattle.rr_engine.specs.Stand.{Stand}
-use Rattle.rr_engine.specs.Input.{unread, Heard, Read}
+use Rattle.rr_engine.specs.Input.{Extent, Entire, Part, Debt, unread, Heard, Read}
 use Rattle.rr_engine.specs.Recording.{clock_value, clock_values, Gave, Recorded, Goes, Notes, Shows, Flushed, Stopped, IsStopped, IsLogged, Stops, Enters, Sent, or_memory}
 use Rattle.rr_engine.proofs.Hearing.{heard-none, read-none}
 use Rattle.rr_engine.proofs.Joining.{some_state, run-none, run-one, run-behind, appended-none, gave-none, Begun}
@@ -30,7 +30,7 @@ with-taken g =
     ap (λ z. record g { devices = record g.devices { uart = record g.devices.uart { out = z } } }) (append-nil g.devices.uart.out)
 
 -- the console got its bytes
-shown-to : (o : Bool) (p : Stand) (console : Option (List ℕ)) → p.log.unsent.failed ≡ false
+shown-to : (o : Debt) (p : Stand) (console : Option (List ℕ)) → p.log.unsent.failed ≡ false
     → Takes p.console console p.machine.devices.uart.out
     → Begun o o p (record p { machine = without_out p.machine; console = console })
 shown-to o p console works t = record {
@@ -42,17 +42,18 @@ shown-to o p console works t = record {
   log_faults = refl;
   console = t;
   console_faults = refl;
-  read = read-none true p.input.left;
+  read = read-none Entire p.input.left;
   heard = λ w es c h. h;
   input_faults = refl;
-  clock = gave-none true p.gave;
+  clock = gave-none Entire p.gave;
 }
 
-pub shown : (o : Bool) (p q : Stand) → p.log.unsent.failed ≡ false → Shows p q (Ok tt) → Begun o o p q
+pub shown : (o : Debt) (p q : Stand) → p.log.unsent.failed ≡ false → Shows p q (Ok tt)
+    → Begun o o p q
 shown o p q works s = subst (Begun o o p) (sym s.1) (shown-to o p q.console works s.0)
 
 -- what was held of the log was written, and nothing else came
-pub flushed-stopped : (o : Bool) (p q : Stand) → Flushed p q → Stopped o p q
+pub flushed-stopped : (o : Debt) (p q : Stand) → Flushed p q → Stopped o p q
 flushed-stopped o p q f = record {
   recorded = record {
     events = [];
@@ -65,11 +66,12 @@ flushed-stopped o p q f = record {
     log_faults = tt;
     console = subst (λ (z : Stand). TakesFront p.console z.console []) (sym f.rest) (TakesFront-none p.console []);
     console_faults = tt;
-    read = subst (λ (z : Stand). Read false p.input.left z.input.left []) (sym f.rest) (read-none false p.input.left);
-    heard = subst (λ (z : Stand). Heard false o (unread p.input) [] (unread z.input)) (sym f.rest)
-        (heard-none false o (unread p.input) (λ same. absurd cc));
+    read = subst (λ (z : Stand). Read Part p.input.left z.input.left []) (sym f.rest)
+        (read-none Part p.input.left);
+    heard = subst (λ (z : Stand). Heard Part o (unread p.input) [] (unread z.input)) (sym f.rest)
+        (heard-none Part o (unread p.input) (λ same. absurd cc));
     input_faults = tt;
-    clock = subst (λ (z : Stand). Gave false p.gave z.gave []) (sym f.rest) (gave-none false p.gave);
+    clock = subst (λ (z : Stand). Gave Part p.gave z.gave []) (sym f.rest) (gave-none Part p.gave);
   };
   silent = refl;
   console = ap (λ z. z.console) f.rest;
@@ -78,10 +80,10 @@ flushed-stopped o p q f = record {
 }
 
 -- the console's sink failed, and the recording was stopped
-spill-to : (o : Bool) (p r : Stand) (console : Option (List ℕ)) (faults : ℕ)
+spill-to : (o : Debt) (p r : Stand) (console : Option (List ℕ)) (faults : ℕ)
     → TakesFront p.console console p.machine.devices.uart.out
     → Stopped o (record p { machine = without_out p.machine; console = console; console_faults = faults }) r
-    → Recorded false o p r
+    → Recorded Part o p r
 spill-to o p r console faults t s = record {
   events = s.recorded.events;
   bytes = p.machine.devices.uart.out ++ s.recorded.bytes;
@@ -103,11 +105,12 @@ spill-to o p r console faults t s = record {
   clock = s.recorded.clock;
 }
 
-spilled : (o : Bool) (p q r : Stand) → Shows p q (Err ConsoleWrite) → Stopped o q r → Recorded false o p r
+spilled : (o : Debt) (p q r : Stand) → Shows p q (Err ConsoleWrite) → Stopped o q r
+    → Recorded Part o p r
 spilled o p q r s stopped = spill-to o p r q.console q.console_faults s.0
     (subst (λ (z : Stand). Stopped o z r) s.1 stopped)
 
-spill-rose : (o : Bool) (p q r : Stand) → Shows p q (Err ConsoleWrite) → Stopped o q r
+spill-rose : (o : Debt) (p q r : Stand) → Shows p q (Err ConsoleWrite) → Stopped o q r
     → Rose p.console_faults r.console_faults
 spill-rose o p q r s stopped =
     subst (λ (z : ℕ). Rose p.console_faults z) (sym stopped.console_faults) s.2
@@ -129,7 +132,7 @@ sent-flushed p q (Err ConsoleWrite) s = absurd s
 
 -- the clock gave no value for an event without one
 no-value : (p r : Stand) (e : Event) → clock_value e ≡ [] → r.gave ≡ p.gave
-    → Gave false p.gave r.gave (clock_values (e ∷ []))
+    → Gave Part p.gave r.gave (clock_values (e ∷ []))
 no-value p r e none gave = record {
   more = [];
   gave = subst (λ (z : Option (List ℕ)). Takes p.gave z (clock_values (e ∷ []) ++ [])) (sym gave)
@@ -144,7 +147,7 @@ abbrev pub EndsInput : Event → Type 0
 EndsInput (event.End reason code) = Unit {0}
 EndsInput other = ⊥
 
-end-part : (o : Bool) (a : Option (List ℕ)) (e : Event) → EndsInput e → Heard false o a (e ∷ []) a
+end-part : (o : Debt) (a : Option (List ℕ)) (e : Event) → EndsInput e → Heard Part o a (e ∷ []) a
 end-part o None e ends = tt
 end-part o (Some left) (event.End reason code) ends = ([], (λ whole. absurd cc, (λ whole. absurd cc, refl)))
 end-part o (Some left) (event.Instruction n) ends = absurd ends
@@ -167,18 +170,21 @@ end-leaves (event.Net bytes) ends = absurd ends
 end-leaves (event.Clock value) ends = absurd ends
 end-leaves (event.Checkpoint idle) ends = absurd ends
 
-no-read : (p r : Stand) (e : Event) → EndsInput e → r.input ≡ p.input → Read false p.input.left r.input.left (e ∷ [])
+no-read : (p r : Stand) (e : Event) → EndsInput e → r.input ≡ p.input
+    → Read Part p.input.left r.input.left (e ∷ [])
 no-read p r e ends same =
-    subst (λ (z : Intake). Read false p.input.left z.left (e ∷ [])) (sym same) (leaves-read false e p.input.left (end-leaves e ends))
+    subst (λ (z : Intake). Read Part p.input.left z.left (e ∷ [])) (sym same)
+    (leaves-read Part e p.input.left (end-leaves e ends))
 
-no-part : (o : Bool) (p r : Stand) (e : Event) → EndsInput e → r.input ≡ p.input
-    → Heard false o (unread p.input) (e ∷ []) (unread r.input)
+no-part : (o : Debt) (p r : Stand) (e : Event) → EndsInput e → r.input ≡ p.input
+    → Heard Part o (unread p.input) (e ∷ []) (unread r.input)
 no-part o p r e ends same =
-    subst (λ (z : Intake). Heard false o (unread p.input) (e ∷ []) (unread z)) (sym same)
+    subst (λ (z : Intake). Heard Part o (unread p.input) (e ∷ []) (unread z)) (sym same)
     (end-part o (unread p.input) e ends)
 
 -- an event was entered, and the log ended after it
-noted-stopped : (o : Bool) (p : Stand) (m : State) (e : Event) (r : Stand) (after : Option (List ℕ)) → step p.machine e ≡ Some m → IsEvent e
+noted-stopped : (o : Debt) (p : Stand) (m : State) (e : Event) (r : Stand) (after : Option (List ℕ))
+    → step p.machine e ≡ Some m → IsEvent e
     → EndsInput e → clock_value e ≡ [] → TakesFront p.log.taken r.log.taken (p.log.unsent.held ++ text e)
     → r.console ≡ p.console → r.console_faults ≡ p.console_faults → r.input ≡ p.input → r.gave ≡ p.gave → Stopped o p r
 noted-stopped o p m e r after s is ends none front console faults input gave = record {
@@ -204,11 +210,11 @@ noted-stopped o p m e r after s is ends none front console faults input gave = r
   input = input;
 }
 
-unmoved : (o : Bool) (p : Stand) → Stopped o p p
+unmoved : (o : Debt) (p : Stand) → Stopped o p p
 unmoved o p = flushed-stopped o p p (record { front = TakesFront-none p.log.taken p.log.unsent.held; rest = refl })
 
 -- memory was refused after the machine had taken an event
-moved : (o : Bool) (p : Stand) (m : State) → Stopped o p (record p { machine = m })
+moved : (o : Debt) (p : Stand) (m : State) → Stopped o p (record p { machine = m })
 moved o p m =
     let s = unmoved o p in
     record {
@@ -235,7 +241,8 @@ moved o p m =
     }
 
 -- the log got the event, and all that it held was written
-entered-flushed : (o : Bool) (p q r : Stand) (e : Event) → IsEvent e → EndsInput e → clock_value e ≡ [] → Enters p q e (Ok tt) → Flushed q r → Stopped o p r
+entered-flushed : (o : Debt) (p q r : Stand) (e : Event) → IsEvent e → EndsInput e
+    → clock_value e ≡ [] → Enters p q e (Ok tt) → Flushed q r → Stopped o p r
 entered-flushed o p q r e is ends none (inl refused) f = absurd cc
 entered-flushed o p q r e is ends none (inr took) f =
     let rest = rest-of (record p { machine = q.machine }) q (text e) (Ok tt) took.1 in
@@ -249,12 +256,14 @@ entered-flushed o p q r e is ends none (inr took) f =
     (ap (λ (z : Stand). z.input) f.rest ∙ ap (λ (z : Stand). z.input) rest)
     (ap (λ (z : Stand). z.gave) f.rest ∙ ap (λ (z : Stand). z.gave) rest)
 
-entered-stopped : (o : Bool) (p q r : Stand) (e : Event) (x : Result (Unit {0}) Break) → IsEvent e → EndsInput e → clock_value e ≡ []
+entered-stopped : (o : Debt) (p q r : Stand) (e : Event) (x : Result (Unit {0}) Break) → IsEvent e
+    → EndsInput e → clock_value e ≡ []
     → Enters p q e (Ok tt) → Sent q r q.log.unsent.held x → Stopped o p r
 entered-stopped o p q r e x is ends none en s = entered-flushed o p q r e is ends none en (sent-flushed q r x s)
 
 -- the event wasn't entered
-failed-stopped : (o : Bool) (p q : Stand) (e : Event) (b : Break) → IsEvent e → EndsInput e → clock_value e ≡ []
+failed-stopped : (o : Debt) (p q : Stand) (e : Event) (b : Break) → IsEvent e → EndsInput e
+    → clock_value e ≡ []
     → Enters p q e (Err b) → Stopped o p q
 failed-stopped o p q e b is ends none (inl refused) = subst (Stopped o p) (sym refused.1) (unmoved o p)
 failed-stopped o p q e ConsoleRead is ends none (inr took) = absurd took.1
@@ -267,16 +276,16 @@ failed-stopped o p q e LogWrite is ends none (inr took) =
     (ap (λ (z : Stand). z.input) rest) (ap (λ (z : Stand). z.gave) rest)
 
 -- where the console wasn't shown all, less is known of the stop
-less-stopped : (shown : Bool) (g : State) → IsStopped shown g → IsStopped false g
+less-stopped : (shown : Extent) (g : State) → IsStopped shown g → IsStopped Part g
 less-stopped shown g (inl ended) = inl ended
 less-stopped shown g (inr owed) = inr (refl, owed.1, owed.2, owed.3, owed.4)
 
 -- the log has all, and the console has a front of the bytes from before
-logged-to : (o : Bool) (shown : Bool) (p r : Stand) (console : Option (List ℕ)) (faults : ℕ)
+logged-to : (o : Debt) (shown : Extent) (p r : Stand) (console : Option (List ℕ)) (faults : ℕ)
     → TakesFront p.console console p.machine.devices.uart.out
     → IsLogged shown o
     (record p { machine = without_out p.machine; console = console; console_faults = faults }) r
-    → r.console ≡ console → IsLogged false o p r
+    → r.console ≡ console → IsLogged Part o p r
 logged-to o shown p r console faults t s same = record {
   events = s.events;
   bytes = p.machine.devices.uart.out ++ s.bytes;
@@ -300,9 +309,9 @@ logged-to o shown p r console faults t s same = record {
 -- ---- what became of the log
 
 -- all that was held was written, where an END of the machine's own was due
-flushed-logged : (o : Bool) (p q : Stand) (reason code : ℕ) → p.machine.control.ended ≡ None
+flushed-logged : (o : Debt) (p q : Stand) (reason code : ℕ) → p.machine.control.ended ≡ None
     → due p.machine ≡ due_is.End reason code
-    → Sent p q p.log.unsent.held (Ok tt) → IsLogged false o p q
+    → Sent p q p.log.unsent.held (Ok tt) → IsLogged Part o p q
 flushed-logged o p q reason code going owed s = record {
   events = [];
   bytes = [];
@@ -314,15 +323,16 @@ flushed-logged o p q reason code going owed s = record {
   console = subst (λ (z : Stand). TakesFront p.console z.console []) (sym s.1)
       (TakesFront-none p.console []);
   all = λ same. absurd cc;
-  read = subst (λ (z : Stand). Read false p.input.left z.input.left []) (sym s.1) (read-none false p.input.left);
-  heard = subst (λ (z : Stand). Heard false o (unread p.input) [] (unread z.input)) (sym s.1)
-      (heard-none false o (unread p.input) (λ same. absurd cc));
-  clock = subst (λ (z : Stand). Gave false p.gave z.gave []) (sym s.1) (gave-none false p.gave);
+  read = subst (λ (z : Stand). Read Part p.input.left z.input.left []) (sym s.1)
+      (read-none Part p.input.left);
+  heard = subst (λ (z : Stand). Heard Part o (unread p.input) [] (unread z.input)) (sym s.1)
+      (heard-none Part o (unread p.input) (λ same. absurd cc));
+  clock = subst (λ (z : Stand). Gave Part p.gave z.gave []) (sym s.1) (gave-none Part p.gave);
 }
 
-flushed-stops : (o : Bool) (p q : Stand) (reason code : ℕ) (x : Result (Unit {0}) Break)
+flushed-stops : (o : Debt) (p q : Stand) (reason code : ℕ) (x : Result (Unit {0}) Break)
     → p.machine.control.ended ≡ None
-    → due p.machine ≡ due_is.End reason code → Sent p q p.log.unsent.held x → Stops false o p q x
+    → due p.machine ≡ due_is.End reason code → Sent p q p.log.unsent.held x → Stops Part o p q x
 flushed-stops o p q reason code (Ok done) going owed s =
     (flushed-stopped o p q (sent-flushed p q (Ok done) s), flushed-logged o p q reason code going owed s)
 flushed-stops o p q reason code (Err LogWrite) going owed s =
@@ -333,11 +343,12 @@ flushed-stops o p q reason code (Err ConsoleRead) going owed s = absurd s
 flushed-stops o p q reason code (Err ConsoleWrite) going owed s = absurd s
 
 -- END 3 was entered, and all that was held was written
-entered-logged : (o : Bool) (p q r : Stand) (e : Event) → IsEvent e → EndsInput e → clock_value e ≡ [] → IsStopped true q.machine
+entered-logged : (o : Debt) (p q r : Stand) (e : Event) → IsEvent e → EndsInput e
+    → clock_value e ≡ [] → IsStopped Entire q.machine
     → q.machine.devices.uart.out ≡ []
     → step p.machine e ≡ Some q.machine
     → Notes (record p { machine = q.machine }) q (text e) (Ok tt)
-    → Sent q r q.log.unsent.held (Ok tt) → IsLogged true o p r
+    → Sent q r q.log.unsent.held (Ok tt) → IsLogged Entire o p r
 entered-logged o p q r e is ends none stopped silent s n sent =
     let rest = rest-of (record p { machine = q.machine }) q (text e) (Ok tt) n in
     let console : r.console ≡ p.console = ap (λ (z : Stand). z.console) sent.1
@@ -366,10 +377,12 @@ entered-logged o p q r e is ends none stopped silent s n sent =
       clock = no-value p r e none gave;
     }
 
-pub entered-stops : (o : Bool) (p q r : Stand) (e : Event) (x : Result (Unit {0}) Break) → IsEvent e → EndsInput e
+pub entered-stops : (o : Debt) (p q r : Stand) (e : Event) (x : Result (Unit {0}) Break) → IsEvent e
+    → EndsInput e
     → clock_value e ≡ []
-    → (step p.machine e ≡ Some q.machine → IsStopped true q.machine × (q.machine.devices.uart.out ≡ []))
-    → Enters p q e (Ok tt) → Sent q r q.log.unsent.held x → Stops true o p r x
+    → (step p.machine e ≡ Some q.machine
+    → IsStopped Entire q.machine × (q.machine.devices.uart.out ≡ []))
+    → Enters p q e (Ok tt) → Sent q r q.log.unsent.held x → Stops Entire o p r x
 entered-stops o p q r e x is ends none stopped (inl refused) s = absurd cc
 entered-stops o p q r e (Ok done) is ends none stopped (inr took) s = (
   entered-stopped o p q r e (Ok done) is ends none (inr took) s,
@@ -384,8 +397,9 @@ entered-stops o p q r e (Err NoMemory) is ends none stopped (inr took) s = enter
 entered-stops o p q r e (Err ConsoleRead) is ends none stopped (inr took) s = absurd s
 entered-stops o p q r e (Err ConsoleWrite) is ends none stopped (inr took) s = absurd s
 
-pub failed-stops : (o : Bool) (p q : Stand) (e : Event) (b : Break) → IsEvent e → EndsInput e → clock_value e ≡ []
-    → Enters p q e (Err b) → Stops true o p q (Err b)
+pub failed-stops : (o : Debt) (p q : Stand) (e : Event) (b : Break) → IsEvent e → EndsInput e
+    → clock_value e ≡ []
+    → Enters p q e (Err b) → Stops Entire o p q (Err b)
 failed-stops o p q e NoMemory is ends none en = failed-stopped o p q e NoMemory is ends none en
 failed-stops o p q e LogWrite is ends none (inl refused) = absurd cc
 failed-stops o p q e LogWrite is ends none (inr took) =
@@ -396,7 +410,8 @@ failed-stops o p q e ConsoleWrite is ends none (inl refused) = absurd cc
 failed-stops o p q e ConsoleWrite is ends none (inr took) = absurd took.1
 
 -- the console's sink failed, and the recording was stopped, whatever broke it off
-spill-goes : (o : Bool) (shown : Bool) (p q r : Stand) (x : Result (Unit {0}) Break) → Shows p q (Err ConsoleWrite)
+spill-goes : (o : Debt) (shown : Extent) (p q r : Stand) (x : Result (Unit {0}) Break)
+    → Shows p q (Err ConsoleWrite)
     → Stops shown o q r x → Goes o p r (Err (or_memory ConsoleWrite x))
 spill-goes o shown p q r (Ok done) s stops = (
   spilled o p q r s stops.0,
@@ -419,7 +434,8 @@ spill-goes o shown p q r (Err NoMemory) s stops = (spilled o p q r s stops, tt)
 spill-goes o shown p q r (Err ConsoleRead) s stops = absurd stops
 spill-goes o shown p q r (Err ConsoleWrite) s stops = absurd stops
 
-pub spills : (o : Bool) (shown : Bool) (p q r : Stand) (b c : Break) (x : Result (Unit {0}) Break) → c ≡ or_memory b x
+pub spills : (o : Debt) (shown : Extent) (p q r : Stand) (b c : Break) (x : Result (Unit {0}) Break)
+    → c ≡ or_memory b x
     → Shows p q (Err b) → Stops shown o q r x → Goes o p r (Err c)
 spills o shown p q r ConsoleWrite c x is s stops = subst (λ (z : Break). Goes o p r (Err z)) (sym is)
     (spill-goes o shown p q r x s stops)
@@ -448,12 +464,12 @@ pub due-without : (g : State) → due (without_out g) ≡ due g
 due-without g = sym (due-with g.devices.uart.out (without_out g)) ∙ ap due (with-taken g)
 
 -- the console's sink failed before an END of the machine's own
-pub conclusion-spills : (o : Bool) (p q r : Stand) (b c : Break) (x : Result (Unit {0}) Break)
+pub conclusion-spills : (o : Debt) (p q r : Stand) (b c : Break) (x : Result (Unit {0}) Break)
     (reason code : ℕ) → c ≡ or_memory b x → Shows p q (Err b)
     → p.machine.control.ended ≡ None → due p.machine ≡ due_is.End reason code
     → Sent q r q.log.unsent.held x → Goes o p r (Err c)
 conclusion-spills o p q r b c x reason code is s going owed sent =
     let machine : q.machine ≡ without_out p.machine = shown-machine p q (Err b) s in
-    spills o false p q r b c x is s
+    spills o Part p q r b c x is s
     (flushed-stops o q r reason code x (ap (λ (z : State). z.control.ended) machine ∙ going)
     (ap due machine ∙ due-without p.machine ∙ owed) sent)

@@ -1,5 +1,5 @@
 -- A whole recording: its header, its rounds, and the rest of its log.
-use Rattle.std.proofs.Common.{◌≡◌, ℕ, ◌^◌, Bool, true, false, List, [], ◌++◌, ◌≤◌, take, refl, sym, ap, ◌∙◌, subst, inl, inr, append-nil}
+use Rattle.std.proofs.Common.{◌≡◌, ℕ, ◌^◌, true, false, List, [], ◌++◌, ◌≤◌, take, refl, sym, ap, ◌∙◌, subst, inl, inr, append-nil}
 use Rattle.std.specs.Prelude.{Some, None, Ok, Err}
 use Rattle.std.specs.declared.option.Option.{Option}
 use Rattle.std.specs.Io.KnownBytes.{IsAtEnd}
@@ -24,7 +24,7 @@ use Rattle.rr_engine.specs.declared.parts.Break.TheVariants.{ConsoleRead, Consol
 use Rattle.rr_engine.specs.declared.parts.RunEnd.TheVariants as ends
 use Rattle.rr_engine.specs.Stand.{Stand, Devices}
 use Rattle.rr_engine.specs.Recording.{clock_values, Gave, IsStopped, Recorded, IsLogged, Broke, Goes, Took, Sent, HasOwnEnding, EndsByItself, Rests, end_of}
-use Rattle.rr_engine.specs.Input.{unread, Heard, Read}
+use Rattle.rr_engine.specs.Input.{Extent, Entire, Part, Paid, unread, Heard, Read}
 use Rattle.rr_engine.specs.Runs.{Came, Front, ToStop, Records}
 use Rattle.rr_engine.proofs.Hearing.{first-heard, all-heard, read-none}
 use Rattle.rr_engine.proofs.Endings.{goes-on}
@@ -44,14 +44,15 @@ devices p = record {
 }
 
 -- what came of an input that wasn't read yet
-came : (w : Bool) (i j : Intake) (events : List Event) → i.progress.count ≡ 0 → Read w i.left j.left events
-    → Heard w false (unread i) events (unread j) → Came w i.left j.left events
+came : (w : Extent) (i j : Intake) (events : List Event) → i.progress.count ≡ 0
+    → Read w i.left j.left events
+    → Heard w Paid (unread i) events (unread j) → Came w i.left j.left events
 came w i j events none read heard = record { read = read; heard = first-heard w i (unread j) events none heard }
 
-nothing-came : (a : Option (List ℕ)) → Came false a a []
-nothing-came None = record { read = read-none false None; heard = tt }
+nothing-came : (a : Option (List ℕ)) → Came Part a a []
+nothing-came None = record { read = read-none Part None; heard = tt }
 nothing-came (Some x) = record {
-  read = read-none false (Some x);
+  read = read-none Part (Some x);
   heard = (take (2 ^ 40) x, (λ whole. absurd cc, refl));
 }
 
@@ -66,8 +67,9 @@ head-front p q head front console input gave = record {
   log = subst (TakesFront p.log.taken q.log.taken) (sym (append-nil head)) front;
   console = subst (λ (z : Option (List ℕ)). TakesFront p.console z p.machine.devices.uart.out) (sym console)
       (TakesFront-none p.console p.machine.devices.uart.out);
-  input = subst (λ (z : Intake). Came false p.input.left z.left []) (sym input) (nothing-came p.input.left);
-  clock = subst (λ (z : Option (List ℕ)). Gave false p.gave z []) (sym gave) (gave-none false p.gave);
+  input = subst (λ (z : Intake). Came Part p.input.left z.left []) (sym input)
+      (nothing-came p.input.left);
+  clock = subst (λ (z : Option (List ℕ)). Gave Part p.gave z []) (sym gave) (gave-none Part p.gave);
 }
 
 pub no-header : (p q : Stand) (head : List ℕ) (b : Break) → Sent p q head (Err b) → Records p.machine head (devices p) (devices q) (end_of b)
@@ -83,21 +85,23 @@ no-header p q head ConsoleRead s = absurd s
 no-header p q head ConsoleWrite s = absurd s
 
 -- bytes that were taken play no part in where the run was stopped
-stopped-with : (shown : Bool) (front : List ℕ) (g : State) → IsStopped shown g → IsStopped shown (with_out front g)
+stopped-with : (shown : Extent) (front : List ℕ) (g : State) → IsStopped shown g
+    → IsStopped shown (with_out front g)
 stopped-with shown front g (inl ended) = inl ended
 stopped-with shown front g (inr owed) = inr (owed.0, owed.1, owed.2, owed.3, due-with front g ∙ owed.4)
 
 -- bytes that were shown, where no more came after them
-shown-with : (shown : Bool) (a b : Option (List ℕ)) (bytes more : List ℕ) → (shown ≡ true → more ≡ []) → Took shown a b bytes
+shown-with : (shown : Extent) (a b : Option (List ℕ)) (bytes more : List ℕ)
+    → (shown ≡ Entire → more ≡ []) → Took shown a b bytes
     → Took shown a b (bytes ++ more)
-shown-with true a b bytes more none t =
+shown-with Entire a b bytes more none t =
     subst (Takes a b) (sym (ap (λ z. bytes ++ z) (none refl) ∙ append-nil bytes)) t
-shown-with false a b bytes more none t = TakesFront-longer a b bytes more t
+shown-with Part a b bytes more none t = TakesFront-longer a b bytes more t
 
 -- the header was written, and the recording broke off
 front-after : (p : Stand) (w : Writer) (r : Stand) (head : List ℕ) → p.input.progress.count ≡ 0
     → Takes p.log.taken w.taken head → w.unsent.held ≡ []
-    → Recorded false false (record p { log = w }) r → Front p.machine head (devices p) (devices r)
+    → Recorded Part Paid (record p { log = w }) r → Front p.machine head (devices p) (devices r)
 front-after p w r head unread_ taken none a = record {
   events = a.events;
   last = with_out a.bytes a.last;
@@ -106,14 +110,16 @@ front-after p w r head unread_ taken none a = record {
   log = TakesFront-after p.log.taken w.taken r.log.taken head (texts a.events) taken
       (subst (λ (z : List ℕ). TakesFront w.taken r.log.taken (z ++ texts a.events)) none a.log);
   console = TakesFront-longer p.console r.console a.bytes a.last.devices.uart.out a.console;
-  input = came false p.input r.input a.events unread_ a.read a.heard;
+  input = came Part p.input r.input a.events unread_ a.read a.heard;
   clock = a.clock;
 }
 
 -- the header was written, and all of the rest, up to where the run was stopped
-stopped-after : (shown : Bool) (p : Stand) (w : Writer) (r : Stand) (head : List ℕ) → p.input.progress.count ≡ 0
+stopped-after : (shown : Extent) (p : Stand) (w : Writer) (r : Stand) (head : List ℕ)
+    → p.input.progress.count ≡ 0
     → Takes p.log.taken w.taken head → w.unsent.held ≡ []
-    → IsLogged shown false (record p { log = w }) r → ToStop shown p.machine head (devices p) (devices r)
+    → IsLogged shown Paid (record p { log = w }) r
+    → ToStop shown p.machine head (devices p) (devices r)
 stopped-after shown p w r head unread_ taken none a = record {
   events = a.events;
   last = with_out a.bytes a.last;
@@ -123,23 +129,24 @@ stopped-after shown p w r head unread_ taken none a = record {
   log = Takes-trans p.log.taken w.taken r.log.taken head (texts a.events) taken
       (subst (λ (z : List ℕ). Takes w.taken r.log.taken (z ++ texts a.events)) none a.log);
   console = shown-with shown p.console r.console a.bytes a.last.devices.uart.out a.all a.console;
-  input = came false p.input r.input a.events unread_ a.read a.heard;
+  input = came Part p.input r.input a.events unread_ a.read a.heard;
   clock = a.clock;
 }
 
 broken : (p : Stand) (w : Writer) (r : Stand) (head : List ℕ) (b : Break) → p.input.progress.count ≡ 0
     → Takes p.log.taken w.taken head → w.unsent.held ≡ []
-    → w.faults ≡ p.log.faults → Goes false (record p { log = w }) r (Err b) → Records p.machine head (devices p) (devices r) (end_of b)
+    → w.faults ≡ p.log.faults → Goes Paid (record p { log = w }) r (Err b)
+    → Records p.machine head (devices p) (devices r) (end_of b)
 broken p w r head ConsoleRead unread_ taken none faults h = (
   front-after p w r head unread_ taken none h.0,
   h.1.0,
-  λ stood. stopped-after true p w r head unread_ taken none
+  λ stood. stopped-after Entire p w r head unread_ taken none
       (h.1.1 (subst (λ (z : ℕ). Stood z r.log.faults) (sym faults) stood)),
 )
 broken p w r head ConsoleWrite unread_ taken none faults h = (
   front-after p w r head unread_ taken none h.0,
   h.1.0,
-  λ stood. stopped-after false p w r head unread_ taken none
+  λ stood. stopped-after Part p w r head unread_ taken none
       (h.1.1 (subst (λ (z : ℕ). Stood z r.log.faults) (sym faults) stood)),
 )
 broken p w r head LogWrite unread_ taken none faults h =
@@ -148,24 +155,25 @@ broken p w r head NoMemory unread_ taken none faults h = front-after p w r head 
 
 pub run-broken : (p q r : Stand) (head : List ℕ) (b : Break) → p.input.progress.count ≡ 0 → Sent p q head (Ok tt)
     → q.log.unsent.held ≡ []
-    → Goes false q r (Err b) → Records p.machine head (devices p) (devices r) (end_of b)
+    → Goes Paid q r (Err b) → Records p.machine head (devices p) (devices r) (end_of b)
 run-broken p q r head b unread_ s none h =
-    broken p q.log r head b unread_ s.0 none s.2 (subst (λ (z : Stand). Goes false z r (Err b)) s.1 h)
+    broken p q.log r head b unread_ s.0 none s.2
+    (subst (λ (z : Stand). Goes Paid z r (Err b)) s.1 h)
 
 -- the rest of the log wasn't written whole
-sent-broke : (q r : Stand) (bytes : List ℕ) (b : Break) → Sent q r bytes (Err b) → Broke false q r b
+sent-broke : (q r : Stand) (bytes : List ℕ) (b : Break) → Sent q r bytes (Err b) → Broke Paid q r b
 sent-broke q r bytes LogWrite s = s.2
 sent-broke q r bytes NoMemory s = tt
 sent-broke q r bytes ConsoleRead s = absurd s
 sent-broke q r bytes ConsoleWrite s = absurd s
 
 pub rest-broken : (p q r t : Stand) (head : List ℕ) (b : Break) → p.input.progress.count ≡ 0 → Sent p q head (Ok tt)
-    → q.log.unsent.held ≡ [] → Recorded true false q r
+    → q.log.unsent.held ≡ [] → Recorded Entire Paid q r
     → Sent r t r.log.unsent.held (Err b) → Records p.machine head (devices p) (devices t) (end_of b)
 rest-broken p q r t head b unread_ s none a rest =
-    let stopped = (flushed-stopped false r t (sent-flushed r t (Err b) rest)).recorded in
+    let stopped = (flushed-stopped Paid r t (sent-flushed r t (Err b) rest)).recorded in
     run-broken p q t head b unread_ s none
-    (goes-then false q r t (Err b) a (stopped, sent-broke r t r.log.unsent.held b rest))
+    (goes-then Paid q r t (Err b) a (stopped, sent-broke r t r.log.unsent.held b rest))
 
 -- ---- all went well
 
@@ -188,7 +196,7 @@ wakeless-end r ending rests ended one =
 
 whole-after : (p : Stand) (w : Writer) (r : Stand) (t : Writer) (head : List ℕ) (ending : Ending) → p.input.progress.count ≡ 0
     → Takes p.log.taken w.taken head
-    → w.unsent.held ≡ [] → w.faults ≡ p.log.faults → Recorded true false (record p { log = w }) r
+    → w.unsent.held ≡ [] → w.faults ≡ p.log.faults → Recorded Entire Paid (record p { log = w }) r
     → Takes r.log.taken t.taken r.log.unsent.held → t.faults ≡ r.log.faults → r.machine.control.ended ≡ Some ending → Rests r
     → Records p.machine head (devices p) (devices (record r { log = t })) (ends.End ending.reason ending.code)
 whole-after p w r t head ending unread_ taken none faults a rest same ended rests =
@@ -204,7 +212,7 @@ whole-after p w r t head ending unread_ taken none faults a rest same ended rest
         log = whole-log p.log.taken w.taken r.log.taken t.taken head a.log.written r.log.unsent.held (texts a.events)
             taken a.log.taken rest (a.log.whole ∙ ap (λ z. z ++ texts a.events) none);
         console = subst (Takes p.console r.console) (sym (ap (λ z. a.bytes ++ z) out ∙ append-nil a.bytes)) a.console;
-        input = came true p.input r.input a.events unread_ a.read a.heard;
+        input = came Entire p.input r.input a.events unread_ a.read a.heard;
         all_came = λ one. all-heard p.input (unread r.input) a.events unread_ a.heard (wakeless-end r ending rests ended one);
         clock = subst (Takes p.gave r.gave) (ap (λ z. clock_values a.events ++ z) (a.clock.all refl) ∙ append-nil (clock_values a.events))
             a.clock.gave;
@@ -216,13 +224,14 @@ whole-after p w r t head ending unread_ taken none faults a rest same ended rest
     )
 
 pub run-whole : (p q r t : Stand) (head : List ℕ) (ending : Ending) → p.input.progress.count ≡ 0 → Sent p q head (Ok tt)
-    → q.log.unsent.held ≡ [] → Recorded true false q r
+    → q.log.unsent.held ≡ [] → Recorded Entire Paid q r
     → Sent r t r.log.unsent.held (Ok tt) → t.machine.control.ended ≡ Some ending → Rests r
     → Records p.machine head (devices p) (devices t) (ends.End ending.reason ending.code)
 run-whole p q r t head ending unread_ s none a rest ended rests =
     let last : r.machine.control.ended ≡ Some ending = sym (ap (λ (z : Stand). z.machine.control.ended) rest.1) ∙ ended in
     subst (λ (z : Stand). Records p.machine head (devices p) (devices z) (ends.End ending.reason ending.code)) (sym rest.1)
-    (whole-after p q.log r t.log head ending unread_ s.0 none s.2 (subst (λ (z : Stand). Recorded true false z r) s.1 a)
+    (whole-after p q.log r t.log head ending unread_ s.0 none s.2
+    (subst (λ (z : Stand). Recorded Entire Paid z r) s.1 a)
     rest.0 rest.2 last rests)
 
 -- nothing was recorded
@@ -235,7 +244,7 @@ nothing-recorded g head d = record {
   log = TakesFront-none d.log (head ++ []);
   console = TakesFront-none d.console g.devices.uart.out;
   input = nothing-came d.input;
-  clock = gave-none false d.gave;
+  clock = gave-none Part d.gave;
 }
 
 -- at its start a run hasn't ended, and no window is open

@@ -1,5 +1,5 @@
 -- What was recorded from one stand of a recording to another.
-use Rattle.std.specs.Prelude.{◌≡◌, ℕ, Bool, true, false, List, [], ◌∷◌, ◌++◌, ◌⊎◌, ◌≤◌, Some, None, Result, Ok, Err}
+use Rattle.std.specs.Prelude.{◌≡◌, ℕ, true, false, List, [], ◌∷◌, ◌++◌, ◌⊎◌, ◌≤◌, Some, None, Result, Ok, Err}
 use Rattle.std.specs.declared.option.Option.{Option}
 use Rattle.std.specs.List.{AllByRecursion}
 use Rattle.std.specs.Io.KnownBytes.{IsAtEnd}
@@ -23,7 +23,7 @@ use Rattle.rr_engine.specs.declared.parts.RunEnd.TheVariants as ends
 use Rattle.rr_engine.specs.declared.parts.Break.{Break}
 use Rattle.rr_engine.specs.declared.parts.Break.TheVariants.{ConsoleRead, ConsoleWrite, LogWrite, NoMemory}
 use Rattle.rr_engine.specs.Stand.{Stand}
-use Rattle.rr_engine.specs.Input.{unread, Heard, Read}
+use Rattle.rr_engine.specs.Input.{Extent, Entire, Part, Debt, unread, Heard, Read}
 
 -- the value of a CLOCK event
 abbrev pub clock_value : Event → List ℕ
@@ -36,9 +36,9 @@ clock_values [] = []
 clock_values (e ∷ es) = clock_value e ++ clock_values es
 
 -- the bytes were taken, all of them or, where the recording broke off, a front
-abbrev pub Took : Bool → Option (List ℕ) → Option (List ℕ) → List ℕ → Type 0
-Took true old new bytes = Takes old new bytes
-Took false old new bytes = TakesFront old new bytes
+abbrev pub Took : Extent → Option (List ℕ) → Option (List ℕ) → List ℕ → Type 0
+Took Entire old new bytes = Takes old new bytes
+Took Part old new bytes = TakesFront old new bytes
 
 -- these bytes joined the log: what was written and what is held are what was held and these
 pub record Appended (old new : Writer) (bytes : List ℕ) : Type 0 where
@@ -48,51 +48,51 @@ pub record Appended (old new : Writer) (bytes : List ℕ) : Type 0 where
   pub works : new.unsent.failed ≡ false
 
 -- the same, or where the recording broke off, a front of what was held and these was written
-abbrev pub Logged : Bool → Writer → Writer → List ℕ → Type 0
-Logged true old new bytes = Appended old new bytes
-Logged false old new bytes = TakesFront old.taken new.taken (old.unsent.held ++ bytes)
+abbrev pub Logged : Extent → Writer → Writer → List ℕ → Type 0
+Logged Entire old new bytes = Appended old new bytes
+Logged Part old new bytes = TakesFront old.taken new.taken (old.unsent.held ++ bytes)
 
 -- the clock gave these values, and where the recording broke off maybe one that no event has
-pub record Gave (whole : Bool) (old new : Option (List ℕ)) (values : List ℕ) : Type 0 where
+pub record Gave (extent : Extent) (old new : Option (List ℕ)) (values : List ℕ) : Type 0 where
   pub more : List ℕ
   pub gave : Takes old new (values ++ more)
-  pub all : whole ≡ true → more ≡ []
+  pub all : extent ≡ Entire → more ≡ []
 
 -- a count of faults stayed, where the recording didn't break off
-abbrev pub Counted : Bool → ℕ → ℕ → Type 0
-Counted true old new = new ≡ old
-Counted false old new = Unit {0}
+abbrev pub Counted : Extent → ℕ → ℕ → Type 0
+Counted Entire old new = new ≡ old
+Counted Part old new = Unit {0}
 
 -- The machine took these events, and gave these console bytes away; the log has the events, the
 -- console the bytes, and its input and the clock gave what the events have. Where it broke off, the
 -- log has a front of that, and the console too.
-pub record Recorded (whole owed : Bool) (p q : Stand) : Type 0 where
+pub record Recorded (extent : Extent) (debt : Debt) (p q : Stand) : Type 0 where
   pub events : List Event
   pub bytes : List ℕ
   pub last : State
   pub are : AllByRecursion IsEvent events
   pub runs : run p.machine events ≡ Some (with_out bytes last)
-  pub stands : whole ≡ true → last ≡ q.machine
-  pub log : Logged whole p.log q.log (texts events)
-  pub log_faults : Counted whole p.log.faults q.log.faults
-  pub console : Took whole p.console q.console bytes
-  pub console_faults : Counted whole p.console_faults q.console_faults
-  pub read : Read whole p.input.left q.input.left events
-  pub heard : Heard whole owed (unread p.input) events (unread q.input)
-  pub input_faults : Counted whole p.input.faults q.input.faults
-  pub clock : Gave whole p.gave q.gave (clock_values events)
+  pub stands : extent ≡ Entire → last ≡ q.machine
+  pub log : Logged extent p.log q.log (texts events)
+  pub log_faults : Counted extent p.log.faults q.log.faults
+  pub console : Took extent p.console q.console bytes
+  pub console_faults : Counted extent p.console_faults q.console_faults
+  pub read : Read extent p.input.left q.input.left events
+  pub heard : Heard extent debt (unread p.input) events (unread q.input)
+  pub input_faults : Counted extent p.input.faults q.input.faults
+  pub clock : Gave extent p.gave q.gave (clock_values events)
 
 -- END 3 ended the run; or, where the console couldn't be shown all, an END of the machine's own was
 -- due
-abbrev pub IsStopped : Bool → State → Type 0
+abbrev pub IsStopped : Extent → State → Type 0
 IsStopped shown g =
     (g.control.ended ≡ Some (record { reason = 3; code = 0 }))
-    ⊎ ((shown ≡ false) × (g.control.ended ≡ None)
+    ⊎ ((shown ≡ Part) × (g.control.ended ≡ None)
     × (reason : ℕ) × (code : ℕ) × (due g ≡ due_is.End reason code))
 
 -- The recording was stopped after these events, and the log has them all. The console was shown all
 -- of the bytes, or a front.
-pub record IsLogged (shown owed : Bool) (p q : Stand) : Type 0 where
+pub record IsLogged (shown : Extent) (debt : Debt) (p q : Stand) : Type 0 where
   pub events : List Event
   pub bytes : List ℕ
   pub last : State
@@ -101,25 +101,26 @@ pub record IsLogged (shown owed : Bool) (p q : Stand) : Type 0 where
   pub stopped : IsStopped shown last
   pub log : Takes p.log.taken q.log.taken (p.log.unsent.held ++ texts events)
   pub console : Took shown p.console q.console bytes
-  pub all : shown ≡ true → last.devices.uart.out ≡ []
-  pub read : Read false p.input.left q.input.left events
-  pub heard : Heard false owed (unread p.input) events (unread q.input)
-  pub clock : Gave false p.gave q.gave (clock_values events)
+  pub all : shown ≡ Entire → last.devices.uart.out ≡ []
+  pub read : Read Part p.input.left q.input.left events
+  pub heard : Heard Part debt (unread p.input) events (unread q.input)
+  pub clock : Gave Part p.gave q.gave (clock_values events)
 
 -- why it broke off
-abbrev pub Broke : Bool → Stand → Stand → Break → Type 0
-Broke owed p q ConsoleRead =
-    Rose p.input.faults q.input.faults × (Stood p.log.faults q.log.faults → IsLogged true owed p q)
-Broke owed p q ConsoleWrite =
+abbrev pub Broke : Debt → Stand → Stand → Break → Type 0
+Broke debt p q ConsoleRead =
+    Rose p.input.faults q.input.faults
+    × (Stood p.log.faults q.log.faults → IsLogged Entire debt p q)
+Broke debt p q ConsoleWrite =
     Rose p.console_faults q.console_faults
-    × (Stood p.log.faults q.log.faults → IsLogged false owed p q)
-Broke owed p q LogWrite = Rose p.log.faults q.log.faults
-Broke owed p q NoMemory = Unit {0}
+    × (Stood p.log.faults q.log.faults → IsLogged Part debt p q)
+Broke debt p q LogWrite = Rose p.log.faults q.log.faults
+Broke debt p q NoMemory = Unit {0}
 
 -- the recording went on, or broke off; at first a window may owe its piece of the input
-abbrev pub Goes : Bool → Stand → Stand → Result (Unit {0}) Break → Type 0
-Goes owed p q (Ok done) = Recorded true owed p q
-Goes owed p q (Err broke) = Recorded false owed p q × Broke owed p q broke
+abbrev pub Goes : Debt → Stand → Stand → Result (Unit {0}) Break → Type 0
+Goes debt p q (Ok done) = Recorded Entire debt p q
+Goes debt p q (Err broke) = Recorded Part debt p q × Broke debt p q broke
 
 -- an event that the machine accepts now
 pub record IsOwed (g : State) (e : Event) : Type 0 where
@@ -161,8 +162,8 @@ pub record Flushed (p q : Stand) : Type 0 where
 
 -- the recording was stopped: no more console bytes came, and the log has a front of what was
 -- recorded
-pub record Stopped (owed : Bool) (p q : Stand) : Type 0 where
-  pub recorded : Recorded false owed p q
+pub record Stopped (debt : Debt) (p q : Stand) : Type 0 where
+  pub recorded : Recorded Part debt p q
   pub silent : recorded.bytes ≡ []
   pub console : q.console ≡ p.console
   pub console_faults : q.console_faults ≡ p.console_faults
@@ -178,12 +179,12 @@ or_memory broke (Ok done) = broke
 
 -- The recording was stopped. What was recorded is in the log, or its sink failed, or memory was
 -- refused.
-abbrev pub Stops : Bool → Bool → Stand → Stand → Result (Unit {0}) Break → Type 0
-Stops shown owed p q (Ok done) = Stopped owed p q × IsLogged shown owed p q
-Stops shown owed p q (Err LogWrite) = Stopped owed p q × Rose p.log.faults q.log.faults
-Stops shown owed p q (Err NoMemory) = Stopped owed p q
-Stops shown owed p q (Err ConsoleRead) = ⊥
-Stops shown owed p q (Err ConsoleWrite) = ⊥
+abbrev pub Stops : Extent → Debt → Stand → Stand → Result (Unit {0}) Break → Type 0
+Stops shown debt p q (Ok done) = Stopped debt p q × IsLogged shown debt p q
+Stops shown debt p q (Err LogWrite) = Stopped debt p q × Rose p.log.faults q.log.faults
+Stops shown debt p q (Err NoMemory) = Stopped debt p q
+Stops shown debt p q (Err ConsoleRead) = ⊥
+Stops shown debt p q (Err ConsoleWrite) = ⊥
 
 -- an event that is accepted without a turn
 abbrev pub IsNoTurn : Event → Type 0

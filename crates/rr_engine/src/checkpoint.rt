@@ -6,7 +6,7 @@ ghost use Rattle.board.specs.Accept.{takes_input};
 ghost use Rattle.board.specs.Answers.{Counts, IsDue};
 ghost use Rattle.board.specs.Due.{due};
 ghost use Rattle.rr_engine.specs.Stand.{stand};
-ghost use Rattle.rr_engine.specs.Input.{unread};
+ghost use Rattle.rr_engine.specs.Input.{Entire, Owed, Paid, unread};
 ghost use Rattle.rr_engine.specs.Recording.{Goes, Rests, Stops};
 ghost use Rattle.rr_engine.specs.Work.{work_left};
 
@@ -31,7 +31,7 @@ impl Recorder {
         requires going { self.old.machine.control.ended ≡ None }
         requires counts { Counts self.old.machine.control self.old.machine.devices.time }
         requires rests { Rests (stand self.old parts.old) }
-        ensures goes { Goes false (stand self.old parts.old)
+        ensures goes { Goes Paid (stand self.old parts.old)
             (stand self.new parts.new) result }
         ensures works { OnOk result (self.new.log.failed ≡ false) }
         ensures progress { OnOk result (work_left self.new.machine self.new.pieces
@@ -55,7 +55,7 @@ impl Recorder {
         requires open { takes_input self.old.machine.control ≡ true }
         requires over { self.old.pieces.ended ≡ true
             → IsAtEnd (unread (stand self.old parts.old).input) }
-        ensures goes { Goes true (stand self.old parts.old)
+        ensures goes { Goes Owed (stand self.old parts.old)
             (stand self.new parts.new) result }
         ensures works { OnOk result (self.new.log.failed ≡ false) }
         ensures progress { OnOk result (work_left self.new.machine self.new.pieces
@@ -80,7 +80,7 @@ impl Recorder {
         requires silent { self.old.machine.devices.uart.out ≡ [] }
         requires over { self.old.pieces.ended ≡ true
             → IsAtEnd (unread (stand self.old parts.old).input) }
-        ensures goes { Goes true (stand self.old parts.old)
+        ensures goes { Goes Owed (stand self.old parts.old)
             (stand self.new parts.new) result }
         ensures works { OnOk result (self.new.log.failed ≡ false) }
         ensures progress { OnOk result (work_left self.new.machine self.new.pieces
@@ -105,7 +105,7 @@ impl Recorder {
         requires works { self.old.log.failed ≡ false }
         requires open { takes_input self.old.machine.control ≡ true }
         requires silent { self.old.machine.devices.uart.out ≡ [] }
-        ensures { Stops true true (stand self.old parts.old)
+        ensures { Stops Entire Owed (stand self.old parts.old)
             (stand self.new parts.new) result }
     {
         let stopped = Event::End { reason: 3, code: 0 };
@@ -130,7 +130,7 @@ impl Recorder {
         requires going { self.old.machine.control.ended ≡ None }
         requires counts { Counts self.old.machine.control self.old.machine.devices.time }
         requires rests { Rests (stand self.old parts.old) }
-        ensures goes { Goes false (stand self.old parts.old)
+        ensures goes { Goes Paid (stand self.old parts.old)
             (stand self.new parts.new) result }
         ensures works { OnOk result (self.new.log.failed ≡ false) }
         ensures progress { OnOk result (work_left self.new.machine self.new.pieces

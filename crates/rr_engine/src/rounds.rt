@@ -3,6 +3,7 @@
 ghost use Rattle.std.specs.Prelude.{◌≡◌, ◌<◌, OnOk, None, IsSome, false};
 ghost use Rattle.board.specs.Due.{due};
 ghost use Rattle.board.specs.Answers.{Counts};
+ghost use Rattle.rr_engine.specs.Input.{Paid};
 ghost use Rattle.rr_engine.specs.Stand.{stand};
 ghost use Rattle.rr_engine.specs.Recording.{Goes, Rests};
 ghost use Rattle.rr_engine.specs.Work.{work_left};
@@ -28,7 +29,7 @@ impl Recorder {
         requires going { self.old.machine.control.ended ≡ None }
         requires counts { Counts self.old.machine.control self.old.machine.devices.time }
         requires rests { Rests (stand self.old parts.old) }
-        ensures goes { Goes false (stand self.old parts.old)
+        ensures goes { Goes Paid (stand self.old parts.old)
             (stand self.new parts.new) result }
         ensures works { OnOk result (self.new.log.failed ≡ false) }
         ensures progress { OnOk result (work_left self.new.machine self.new.pieces
@@ -52,7 +53,7 @@ impl Recorder {
         requires going { self.old.machine.control.ended ≡ None }
         requires counts { Counts self.old.machine.control self.old.machine.devices.time }
         requires rests { Rests (stand self.old parts.old) }
-        ensures goes { Goes false (stand self.old parts.old)
+        ensures goes { Goes Paid (stand self.old parts.old)
             (stand self.new parts.new) result }
         ensures works { OnOk result (self.new.log.failed ≡ false) }
         ensures progress { OnOk result (work_left self.new.machine self.new.pieces
@@ -73,7 +74,7 @@ impl Recorder {
         requires works { self.old.log.failed ≡ false }
         requires going { self.old.machine.control.ended ≡ None }
         requires rests { Rests (stand self.old parts.old) }
-        ensures goes { Goes false (stand self.old parts.old)
+        ensures goes { Goes Paid (stand self.old parts.old)
             (stand self.new parts.new) result }
         ensures works { OnOk result (self.new.log.failed ≡ false) }
         ensures progress { OnOk result (work_left self.new.machine self.new.pieces
@@ -102,7 +103,7 @@ impl Recorder {
         requires works { self.old.log.failed ≡ false }
         requires going { self.old.machine.control.ended ≡ None }
         requires rests { Rests (stand self.old parts.old) }
-        ensures goes { Goes false (stand self.old parts.old)
+        ensures goes { Goes Paid (stand self.old parts.old)
             (stand self.new parts.new) result }
         ensures works { OnOk result (self.new.log.failed ≡ false) }
         ensures ended { OnOk result (IsSome self.new.machine.control.ended) }

@@ -1,5 +1,5 @@
 -- The recording and the replay of a demonstration.
-use Rattle.std.proofs.Common.{◌≡◌, ◌≤◌, ◌+◌, ◌^◌, ℕ, zero, suc, Bool, true, false, List, [], ◌∷◌, ◌++◌, length, take, drop, replicate, refl, sym, ap, ◌∙◌, subst, arith, append-nil, length-append, inl, inr, Global}
+use Rattle.std.proofs.Common.{◌≡◌, ◌≤◌, ◌+◌, ◌^◌, ℕ, zero, suc, true, List, [], ◌∷◌, ◌++◌, length, take, drop, replicate, refl, sym, ap, ◌∙◌, subst, arith, append-nil, length-append, inl, inr, Global}
 use Rattle.std.proofs.Math.Seq.{drop-append_seam}
 use Rattle.std.specs.Prelude.{Some, None, IfSome, IfOk, is_some, option_map, Result, Ok, Err, String, string_bytes, codes}
 use Rattle.std.specs.Fmt.{decimal}
@@ -29,7 +29,7 @@ use Rattle.log_order.proofs.Verdicts.{whole-right}
 use Rattle.log_order.specs.Order.{IsFirstWrong, IsWhole, IsWrong}
 use Rattle.log_order.specs.declared.refusal.Refusal.{Refusal}
 use Rattle.rr_engine.specs.Stand.{Devices}
-use Rattle.rr_engine.specs.Input.{Hears}
+use Rattle.rr_engine.specs.Input.{Extent, Entire, Debt, Owed, Paid, Hears}
 use Rattle.rr_engine.specs.Recording.{clock_values}
 use Rattle.rr_engine.specs.Runs.{start_of, Records}
 use Rattle.rr_engine.specs.declared.parts.RunEnd.TheVariants as run_end
@@ -52,42 +52,42 @@ took a b xs ys e f t =
     told
 
 -- where no input is, none is left
-heard-nothing : (whole owed : Bool) (events : List Event) (rest : List ℕ)
-    → Hears whole owed [] events rest → rest ≡ []
-heard-nothing whole owed [] rest h = sym h.1
-heard-nothing whole owed (event.CharRead bytes ∷ es) rest h =
+heard-nothing : (extent : Extent) (debt : Debt) (events : List Event) (rest : List ℕ)
+    → Hears extent debt [] events rest → rest ≡ []
+heard-nothing extent debt [] rest h = sym h.1
+heard-nothing extent debt (event.CharRead bytes ∷ es) rest h =
     let none : h.1 ≡ [] = after bytes h.1 h.2 in
-    heard-nothing whole false es rest (subst (λ (z : List ℕ). Hears whole false z es rest) none h.3)
+    heard-nothing extent Paid es rest (subst (λ (z : List ℕ). Hears extent Paid z es rest) none h.3)
   where
     after : (bytes more : List ℕ) → [] ≡ bytes ++ more → more ≡ []
     after [] more e = sym e
     after (x ∷ bytes) more e = absurd cc
-heard-nothing whole owed (event.Block id ok ∷ es) rest h = absurd h
-heard-nothing whole owed (event.Net packet ∷ es) rest h = absurd h
-heard-nothing whole owed (event.Checkpoint idle ∷ es) rest h =
-    heard-nothing whole true es rest h.1
-heard-nothing whole owed (event.End reason code ∷ es) rest h =
-    heard-nothing whole false es rest h.1
-heard-nothing whole owed (event.Instruction n ∷ es) rest h = heard-nothing whole false es rest h.1
-heard-nothing whole owed (event.Interrupt ∷ es) rest h = heard-nothing whole false es rest h.1
-heard-nothing whole owed (event.Exception ∷ es) rest h = heard-nothing whole false es rest h.1
-heard-nothing whole owed (event.Clock value ∷ es) rest h = heard-nothing whole false es rest h.1
+heard-nothing extent debt (event.Block id ok ∷ es) rest h = absurd h
+heard-nothing extent debt (event.Net packet ∷ es) rest h = absurd h
+heard-nothing extent debt (event.Checkpoint idle ∷ es) rest h =
+    heard-nothing extent Owed es rest h.1
+heard-nothing extent debt (event.End reason code ∷ es) rest h =
+    heard-nothing extent Paid es rest h.1
+heard-nothing extent debt (event.Instruction n ∷ es) rest h = heard-nothing extent Paid es rest h.1
+heard-nothing extent debt (event.Interrupt ∷ es) rest h = heard-nothing extent Paid es rest h.1
+heard-nothing extent debt (event.Exception ∷ es) rest h = heard-nothing extent Paid es rest h.1
+heard-nothing extent debt (event.Clock value ∷ es) rest h = heard-nothing extent Paid es rest h.1
 
 take-none : (n : ℕ) → take {A = ℕ} n [] ≡ []
 take-none zero = refl
 take-none (suc n) = refl
 
 silent : (input : Option (List ℕ)) (events : List Event) → input ≡ Some []
-    → IfSome input (λ bytes. (rest : List ℕ) × Hears true false (take (2 ^ 40) bytes) events rest)
-    → Hears true false [] events []
+    → IfSome input (λ bytes. (rest : List ℕ) × Hears Entire Paid (take (2 ^ 40) bytes) events rest)
+    → Hears Entire Paid [] events []
 silent input events e h =
-    let told : (rest : List ℕ) × Hears true false (take (2 ^ 40) []) events rest =
+    let told : (rest : List ℕ) × Hears Entire Paid (take (2 ^ 40) []) events rest =
     subst (λ (z : Option (List ℕ)). IfSome z (λ bytes. (rest : List ℕ)
-    × Hears true false (take (2 ^ 40) bytes) events rest)) e h in
-    let heard : Hears true false [] events told.0 =
-    subst (λ (z : List ℕ). Hears true false z events told.0) (take-none (2 ^ 40)) told.1 in
-    subst (λ (z : List ℕ). Hears true false [] events z)
-    (heard-nothing true false events told.0 heard) heard
+    × Hears Entire Paid (take (2 ^ 40) bytes) events rest)) e h in
+    let heard : Hears Entire Paid [] events told.0 =
+    subst (λ (z : List ℕ). Hears Entire Paid z events told.0) (take-none (2 ^ 40)) told.1 in
+    subst (λ (z : List ℕ). Hears Entire Paid [] events z)
+    (heard-nothing Entire Paid events told.0 heard) heard
 
 zeros : (n : ℕ) → AreZero (replicate n 0)
 zeros zero = tt

@@ -1,5 +1,5 @@
 -- A recording over devices that were just opened, and were given back.
-use Rattle.std.proofs.Common.{◌≡◌, ℕ, ◌^◌, Bool, true, false, List, [], take, refl, sym, subst, arith, append-nil}
+use Rattle.std.proofs.Common.{◌≡◌, ℕ, ◌^◌, List, [], take, refl, sym, subst, arith, append-nil}
 use Rattle.std.specs.Prelude.{Some, None, IfSome}
 use Rattle.std.specs.declared.option.Option.{Option}
 use Rattle.outside.specs.Causes.{Stood, both}
@@ -16,7 +16,7 @@ use Rattle.board.specs.State.{State}
 use Rattle.rr_engine.specs.declared.parts.RunEnd.{RunEnd}
 use Rattle.rr_engine.specs.declared.parts.RunEnd.TheVariants.{End, ConsoleRead, ConsoleWrite, LogWrite, NoMemory}
 use Rattle.rr_engine.specs.Stand.{Devices}
-use Rattle.rr_engine.specs.Input.{typed, Hears}
+use Rattle.rr_engine.specs.Input.{Extent, Entire, Part, Paid, typed, Hears}
 use Rattle.rr_engine.specs.Recording.{clock_values, Took}
 use Rattle.rr_engine.specs.Runs.{start_of, Came, Whole, Front, ToStop, Records}
 use Rattle.rr_engine.proofs.Hearing.{hears-weak, read-weak}
@@ -36,7 +36,7 @@ whole-started start head l k old new reason code fresh w = record {
   ended = w.ended;
   log = Takes-start old.log new.log _ fresh.log w.log;
   console = Takes-start old.console new.console _ fresh.console w.console;
-  input = subst (λ (o : Option (List ℕ)). Came true o new.input w.events) fresh.input w.input;
+  input = subst (λ (o : Option (List ℕ)). Came Entire o new.input w.events) fresh.input w.input;
   all_came = subst (λ (o : Option (List ℕ)). reason ≡ 1
       → IfSome o (λ bytes. typed w.events ≡ take (2 ^ 40) bytes)) fresh.input w.all_came;
   clock = Takes-start old.gave new.gave _ fresh.gave w.clock;
@@ -52,7 +52,7 @@ front-started start head l k old new fresh f = record {
   runs = f.runs;
   log = TakesFront-start old.log new.log _ fresh.log f.log;
   console = TakesFront-start old.console new.console _ fresh.console f.console;
-  input = subst (λ (o : Option (List ℕ)). Came false o new.input f.events) fresh.input f.input;
+  input = subst (λ (o : Option (List ℕ)). Came Part o new.input f.events) fresh.input f.input;
   clock = record {
     more = f.clock.more;
     gave = Takes-start old.gave new.gave _ fresh.gave f.clock.gave;
@@ -62,12 +62,12 @@ front-started start head l k old new fresh f = record {
 
 -- a whole recording is one that may have broken off
 heard-weak : (a : Option (List ℕ)) (es : List Event)
-    → IfSome a (λ bytes. (rest : List ℕ) × Hears true false (take (2 ^ 40) bytes) es rest)
-    → IfSome a (λ bytes. (rest : List ℕ) × Hears false false (take (2 ^ 40) bytes) es rest)
+    → IfSome a (λ bytes. (rest : List ℕ) × Hears Entire Paid (take (2 ^ 40) bytes) es rest)
+    → IfSome a (λ bytes. (rest : List ℕ) × Hears Part Paid (take (2 ^ 40) bytes) es rest)
 heard-weak None es h = tt
-heard-weak (Some x) es h = (h.0, hears-weak false es (take (2 ^ 40) x) h.0 h.1)
+heard-weak (Some x) es h = (h.0, hears-weak Paid es (take (2 ^ 40) x) h.0 h.1)
 
-came-weak : (a b : Option (List ℕ)) (es : List Event) → Came true a b es → Came false a b es
+came-weak : (a b : Option (List ℕ)) (es : List Event) → Came Entire a b es → Came Part a b es
 came-weak a b es c = record { read = read-weak a b es c.read; heard = heard-weak a es c.heard }
 
 whole-front : (start : State) (head : List ℕ) (old new : Devices) (reason code : ℕ)
@@ -131,12 +131,12 @@ recorded-front h f l k m old new end fresh r back =
 
 -- ---- a run that the console or its input stopped
 
-took-started : (shown : Bool) (old new : Option (List ℕ)) (bytes : List ℕ) → StartsEmpty old
+took-started : (shown : Extent) (old new : Option (List ℕ)) (bytes : List ℕ) → StartsEmpty old
     → Took shown old new bytes → Took shown (Some []) new bytes
-took-started true old new bytes fresh t = Takes-start old new bytes fresh t
-took-started false old new bytes fresh t = TakesFront-start old new bytes fresh t
+took-started Entire old new bytes fresh t = Takes-start old new bytes fresh t
+took-started Part old new bytes fresh t = TakesFront-start old new bytes fresh t
 
-stop-started : (shown : Bool) (start : State) (head : List ℕ) (l k : Ledger) (old new : Devices)
+stop-started : (shown : Extent) (start : State) (head : List ℕ) (l k : Ledger) (old new : Devices)
     → IsFresh l old → ToStop shown start head old new
     → ToStop shown start head (opened_with l) (returned (closed k new) new.input)
 stop-started shown start head l k old new fresh s = record {
@@ -147,7 +147,7 @@ stop-started shown start head l k old new fresh s = record {
   stopped = s.stopped;
   log = Takes-start old.log new.log _ fresh.log s.log;
   console = took-started shown old.console new.console _ fresh.console s.console;
-  input = subst (λ (o : Option (List ℕ)). Came false o new.input s.events) fresh.input s.input;
+  input = subst (λ (o : Option (List ℕ)). Came Part o new.input s.events) fresh.input s.input;
   clock = record {
     more = s.clock.more;
     gave = Takes-start old.gave new.gave _ fresh.gave s.clock.gave;
@@ -175,12 +175,12 @@ records-stop : (h : Header) (f : Loaded) (l k : Ledger) (old new : Devices) (end
 records-stop h f l k old new (End reason code) fresh same r stood = tt
 records-stop h f l k old new ConsoleRead fresh same r stood = (
   new.input,
-  stop-started true (start_of h f) (header_text h) l k old new fresh
+  stop-started Entire (start_of h f) (header_text h) l k old new fresh
       (r.2 (log-stood l k old new fresh same stood)),
 )
 records-stop h f l k old new ConsoleWrite fresh same r stood = (
   new.input,
-  stop-started false (start_of h f) (header_text h) l k old new fresh
+  stop-started Part (start_of h f) (header_text h) l k old new fresh
       (r.2 (log-stood l k old new fresh same stood)),
 )
 records-stop h f l k old new LogWrite fresh same r stood = tt
@@ -199,7 +199,7 @@ recorded-stop h f l k m old new end result fresh same r back is stood =
     (subst (λ (z : Ledger). Stood (at l.faults LogOut) (at z.faults LogOut)) back stood)))
 
 -- where nothing was opened, nothing was stopped
-pub opens-no-stop : (end : RecordingEnd) (P : Bool → Type 0) → OpensNothing end → IfStops end P
+pub opens-no-stop : (end : RecordingEnd) (P : Extent → Type 0) → OpensNothing end → IfStops end P
 opens-no-stop (ends.End reason code) P none = absurd none
 opens-no-stop ends.CannotOpenLog P none = tt
 opens-no-stop ends.ConsoleUnreadable P none = absurd none

@@ -1,5 +1,5 @@
 -- The bytes of a log that was broken off: its accepted events, and a part of the next.
-use Rattle.std.proofs.Common.{◌≡◌, ℕ, ◌^◌, false, List, [], ◌∷◌, ◌++◌, refl, sym, ap, ◌∙◌, inl, inr, append_assoc, subst, ◌⊎◌, take}
+use Rattle.std.proofs.Common.{◌≡◌, ℕ, ◌^◌, List, [], ◌∷◌, ◌++◌, refl, sym, ap, ◌∙◌, inl, inr, append_assoc, subst, ◌⊎◌, take}
 use Rattle.std.specs.Prelude.{Some, None, IfSome}
 use Rattle.std.specs.declared.option.Option.{Option}
 use Rattle.std.specs.List.{AllByRecursion}
@@ -14,7 +14,7 @@ use Rattle.board.specs.Runs.{step, run, then_run}
 use Rattle.board.specs.Taken.{with_out, without_out, map_out}
 use Rattle.board.proofs.TakenLaws.{run-with}
 use Rattle.rr_engine.specs.Stand.{Devices}
-use Rattle.rr_engine.specs.Input.{Hears}
+use Rattle.rr_engine.specs.Input.{Part, Paid, Hears}
 use Rattle.rr_engine.specs.Recording.{clock_values, Gave}
 use Rattle.rr_engine.specs.Runs.{Came, Front, OneIsFront, IsPartOfEvent, IsLogOf}
 use Rattle.rr_engine.proofs.Hearing.{hears-front}
@@ -97,7 +97,7 @@ console-front (Some shown) mid last more e t =
     compare shown mid.devices.uart.out t.rest more (ap (λ z. z ++ t.rest) t.taken ∙ sym t.whole ∙ e)
 
 clock-front : (gave : Option (List ℕ)) (es fs : List Event)
-    → Gave false (Some []) gave (clock_values (es ++ fs))
+    → Gave Part (Some []) gave (clock_values (es ++ fs))
     → IfSome gave (λ values. (rest : List ℕ) × (values ≡ clock_values es ++ rest))
 clock-front None es fs g = tt
 clock-front (Some values) es fs g = (
@@ -111,14 +111,14 @@ clock-any : (gave : Option (List ℕ))
 clock-any None = tt
 clock-any (Some values) = (values, refl)
 
-input-front : (input left : Option (List ℕ)) (es fs : List Event) → Came false input left (es ++ fs)
-    → IfSome input (λ bytes. (rest : List ℕ) × Hears false false (take (2 ^ 40) bytes) es rest)
+input-front : (input left : Option (List ℕ)) (es fs : List Event) → Came Part input left (es ++ fs)
+    → IfSome input (λ bytes. (rest : List ℕ) × Hears Part Paid (take (2 ^ 40) bytes) es rest)
 input-front None left es fs c = tt
 input-front (Some x) left es fs c =
-    hears-front false false es fs (take (2 ^ 40) x) c.heard.0 c.heard.1
+    hears-front Part Paid es fs (take (2 ^ 40) x) c.heard.0 c.heard.1
 
 input-any : (input : Option (List ℕ))
-    → IfSome input (λ bytes. (rest : List ℕ) × Hears false false (take (2 ^ 40) bytes) [] rest)
+    → IfSome input (λ bytes. (rest : List ℕ) × Hears Part Paid (take (2 ^ 40) bytes) [] rest)
 input-any None = tt
 input-any (Some x) = (take (2 ^ 40) x, (λ whole. absurd cc, refl))
 
@@ -172,9 +172,9 @@ log-of start head bytes console input left gave none f =
             );
             console_shown = console-front console r.0 f.last more.0 more.1 f.console;
             input_came = input-front input left t.whole t.left
-                (subst (λ (z : List Event). Came false input left z) t.events f.input);
+                (subst (λ (z : List Event). Came Part input left z) t.events f.input);
             clock_gave = clock-front gave t.whole t.left
-                (subst (λ (z : List Event). Gave false (Some []) gave (clock_values z)) t.events
+                (subst (λ (z : List Event). Gave Part (Some []) gave (clock_values z)) t.events
                 f.clock);
           }
     ]

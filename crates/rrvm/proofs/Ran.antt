@@ -12,6 +12,7 @@ use Rattle.elf_load.specs.declared.pieces.Loaded.{Loaded}
 use Rattle.event_log.specs.declared.header.Header.{Header}
 use Rattle.event_log.specs.HeaderFormat.{header_text}
 use Rattle.board.specs.Reset.{reset}
+use Rattle.rr_engine.specs.Input.{Extent, Entire, Part}
 use Rattle.rr_engine.specs.Runs.{start_of, Whole, Front, ToStop, IsOwnReason, IsLogOf}
 use Rattle.rrvm.specs.declared.firmware.Firmware.{Firmware}
 use Rattle.rrvm.specs.declared.firmware.TheConstants.{FIRMWARE_LIMIT}
@@ -74,7 +75,7 @@ whole-of h f old mid new reason code read whole = (
       (ap (λ (l : Ledger). l.input) read) whole.1,
 )
 
-stop-of : (shown : Bool) (h : Header) (f : Loaded) (old mid new : Ledger) → IsRead old mid
+stop-of : (shown : Extent) (h : Header) (f : Loaded) (old mid new : Ledger) → IsRead old mid
     → HasStop shown h f mid new → HasStop shown h f old new
 stop-of shown h f old mid new read stop = (
   stop.0,
@@ -111,7 +112,7 @@ run-recorded (Some file) r f h old mid new reason code gives same read whole = r
       (whole-of h f.loaded old mid new reason code read whole);
 }
 
-run-stopped : (held : Option (List ℕ)) (r : Recording) (f : Firmware) (h : Header) (shown : Bool)
+run-stopped : (held : Option (List ℕ)) (r : Recording) (f : Firmware) (h : Header) (shown : Extent)
     (old mid new : Ledger) → Gives held r.ram_mib f → h ≡ recording_header r f.digest
     → IsRead old mid → HasStop shown h f.loaded mid new
     → IfSome held (λ file. IsRecordedToStop r file shown old new)
@@ -125,7 +126,7 @@ run-stopped (Some file) r f h shown old mid new gives same read stop = record {
 }
 
 -- the log's count before the firmware's file was read was the same
-logs-stop : (r : Recording) (old mid new : Ledger) (f : Firmware) (h : Header) (shown : Bool)
+logs-stop : (r : Recording) (old mid new : Ledger) (f : Firmware) (h : Header) (shown : Extent)
     → Gives (old.names r.bios) r.ram_mib f → h ≡ recording_header r f.digest → IsRead old mid
     → (Stood (at mid.faults LogOut) (at new.faults LogOut) → HasStop shown h f.loaded mid new)
     → LogsStop r shown old new
@@ -185,13 +186,13 @@ ending-cause r old mid new f h ends.ConsoleUnreadable gives same whole stop a i 
   subst (λ (z : ℕ). Rose z (at new.faults ConsoleIn))
       (ap (λ (l : Ledger). at l.faults ConsoleIn) read) (i refl),
   run-good (old.names r.bios) r f gives,
-  logs-stop r old mid new f h true gives same read stop,
+  logs-stop r old mid new f h Entire gives same read stop,
 )
 ending-cause r old mid new f h ends.ConsoleFailed gives same whole stop a i b c p read = (
   subst (λ (z : ℕ). Rose z (at new.faults ConsoleOut))
       (ap (λ (l : Ledger). at l.faults ConsoleOut) read) (b refl),
   run-good (old.names r.bios) r f gives,
-  logs-stop r old mid new f h false gives same read stop,
+  logs-stop r old mid new f h Part gives same read stop,
 )
 ending-cause r old mid new f h ends.LogFailed gives same whole stop a i b c p read = (
   subst (λ (z : ℕ). Rose z (at new.faults LogOut))

@@ -1,5 +1,5 @@
 -- Saying how a run ended changes the messages alone, so its cause stays.
-use Rattle.std.proofs.Common.{◌≡◌, ◌<◌, ◌⊎◌, inl, inr, ℕ, Bool, true, false, List, [], refl, sym, ap, ◌∙◌, subst}
+use Rattle.std.proofs.Common.{◌≡◌, ◌<◌, ◌⊎◌, inl, inr, ℕ, List, [], refl, sym, ap, ◌∙◌, subst}
 use Rattle.std.specs.Prelude.{Some, None, IfSome}
 use Rattle.std.specs.declared.option.Option.{Option}
 use Rattle.outside.specs.Causes.{Rose, Stood}
@@ -9,6 +9,7 @@ use Rattle.outside.specs.Roles.{at}
 use Rattle.outside.specs.declared.roles.Role.TheVariants.{ConsoleOut, LogIn, LogOut, Messages}
 use Rattle.command_line.specs.Words.{Recording, Replaying, Reading, Records, Replays, Demonstrates, Help, Version, Bad, Early}
 use Rattle.log_order.specs.declared.refusal.Refusal.{Refusal}
+use Rattle.rr_engine.specs.Input.{Extent, Entire, Part}
 use Rattle.rrvm.specs.declared.outcome.Outcome.{Outcome}
 use Rattle.rrvm.specs.declared.outcome.Outcome.TheVariants.{Printed, GuestEnded, IdleForEver, BudgetReached, BadWord, WordsMissing, CannotOpen, CannotRead, ConsoleUnreadable, ConsoleFailed, LogFailed, LogUnreadable, BadFirmware, RecordingStopped, HeaderRefused, LogRefused, ImagesDiffer, LogTooLong, QuietFailed, NoMemory}
 use Rattle.rrvm.specs.Ledgers.{only, only_run, Named}
@@ -29,7 +30,7 @@ recorded-stays None r old mid new reason code k = tt
 recorded-stays (Some file) r old mid new reason code k = record
     { firmware = k.firmware; loads = k.loads; fits = k.fits; whole = k.whole }
 
-stopped-stays : (held : Option (List ℕ)) (r : Recording) (shown : Bool) (old mid new : Ledger)
+stopped-stays : (held : Option (List ℕ)) (r : Recording) (shown : Extent) (old mid new : Ledger)
     → IfSome held (λ file. IsRecordedToStop r file shown old mid)
     → IfSome held (λ file. IsRecordedToStop r file shown old (said mid new))
 stopped-stays None r shown old mid new k = tt
@@ -141,9 +142,9 @@ record-stays r old mid new WordsMissing k = k
 record-stays r old mid new (CannotOpen role) k = k
 record-stays r old mid new CannotRead k = k
 record-stays r old mid new ConsoleUnreadable k =
-    (k.0, k.1, λ stood. stopped-stays (old.names r.bios) r true old mid new (k.2 stood))
+    (k.0, k.1, λ stood. stopped-stays (old.names r.bios) r Entire old mid new (k.2 stood))
 record-stays r old mid new ConsoleFailed k =
-    (k.0, k.1, λ stood. stopped-stays (old.names r.bios) r false old mid new (k.2 stood))
+    (k.0, k.1, λ stood. stopped-stays (old.names r.bios) r Part old mid new (k.2 stood))
 record-stays r old mid new LogFailed k = k
 record-stays r old mid new LogUnreadable k = k
 record-stays r old mid new (BadFirmware rule) k = k

@@ -1,5 +1,5 @@
 -- What the top call answers, by its causes in the ledgers before and after.
-use Rattle.std.specs.Prelude.{◌≡◌, ◌⊎◌, ◌<◌, ℕ, Bool, true, false, ⊤, List, [], ◌==◌, Some, None, IfSome, if◌then◌else◌}
+use Rattle.std.specs.Prelude.{◌≡◌, ◌⊎◌, ◌<◌, ℕ, ⊤, List, [], ◌==◌, Some, None, IfSome, if◌then◌else◌}
 use Rattle.std.specs.declared.option.Option.{Option}
 use Rattle.outside.specs.Causes.{Rose, Stood}
 use Rattle.outside.specs.Ledger.{Ledger}
@@ -8,6 +8,7 @@ use Rattle.outside.specs.Roles.{at}
 use Rattle.outside.specs.declared.roles.Role.TheVariants.{ConsoleIn, ConsoleOut, LogIn, LogOut, Firmware, Messages}
 use Rattle.command_line.specs.Words.{Recording, Replaying, Reading, Records, Replays, Demonstrates, Help, Version, Bad, Early}
 use Rattle.event_log.specs.declared.header.Header.{Header}
+use Rattle.rr_engine.specs.Input.{Extent, Entire, Part}
 use Rattle.rrvm.specs.declared.outcome.Outcome.{Outcome}
 use Rattle.rrvm.specs.declared.outcome.Outcome.TheVariants.{Printed, GuestEnded, IdleForEver, BudgetReached, BadWord, WordsMissing, CannotOpen, CannotRead, ConsoleUnreadable, ConsoleFailed, LogFailed, LogUnreadable, BadFirmware, RecordingStopped, HeaderRefused, LogRefused, ImagesDiffer, LogTooLong, QuietFailed, NoMemory}
 use Rattle.rrvm.specs.declared.printing.TheConstants.{HELP, VERSION}
@@ -79,7 +80,7 @@ IsEnded (Replays r) old new reason code =
 IsEnded other old new reason code = ⊥
 
 -- what the log has of a run that the console or its input stopped, where the log's own sink worked
-abbrev pub LogsStop : Recording → Bool → Ledger → Ledger → Type 0
+abbrev pub LogsStop : Recording → Extent → Ledger → Ledger → Type 0
 LogsStop r shown old new = Stood (at old.faults LogOut) (at new.faults LogOut)
     → IfSome (old.names r.bios) (λ file. IsRecordedToStop r file shown old new)
 
@@ -92,10 +93,10 @@ RecordCause r old new (CannotOpen role) = Rose old.opening_faults new.opening_fa
 RecordCause r old new CannotRead = Rose (at old.faults Firmware) (at new.faults Firmware)
 RecordCause r old new ConsoleUnreadable =
     Rose (at old.faults ConsoleIn) (at new.faults ConsoleIn)
-    × IfSome (old.names r.bios) (λ file. IsGood r file) × LogsStop r true old new
+    × IfSome (old.names r.bios) (λ file. IsGood r file) × LogsStop r Entire old new
 RecordCause r old new ConsoleFailed =
     Rose (at old.faults ConsoleOut) (at new.faults ConsoleOut)
-    × IfSome (old.names r.bios) (λ file. IsGood r file) × LogsStop r false old new
+    × IfSome (old.names r.bios) (λ file. IsGood r file) × LogsStop r Part old new
 RecordCause r old new LogFailed =
     Rose (at old.faults LogOut) (at new.faults LogOut)
     × IfSome (old.names r.bios) (λ file. IsGood r file)

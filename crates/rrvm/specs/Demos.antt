@@ -1,5 +1,5 @@
 -- What a demonstration runs, and the line that it gives.
-use Rattle.std.specs.Prelude.{◌≡◌, ◌≤◌, ◌+◌, ◌*◌, ◌^◌, ℕ, true, false, List, [], ◌++◌, length, drop, Some, Ok, codes}
+use Rattle.std.specs.Prelude.{◌≡◌, ◌≤◌, ◌+◌, ◌*◌, ◌^◌, ℕ, false, List, [], ◌++◌, length, drop, Some, Ok, codes}
 use Rattle.std.specs.List.{AllByRecursion}
 use Rattle.std.specs.Fmt.{decimal}
 use Rattle.command_line.specs.Words.{Recording}
@@ -12,7 +12,7 @@ use Rattle.event_log.specs.Spelling.{texts, IsEvent}
 use Rattle.event_log.specs.Reading.{Reader, ahead}
 use Rattle.board.specs.State.{State}
 use Rattle.board.specs.Runs.{run, turns}
-use Rattle.rr_engine.specs.Input.{Hears}
+use Rattle.rr_engine.specs.Input.{Entire, Paid, Hears}
 use Rattle.rr_engine.specs.Recording.{clock_values}
 use Rattle.rr_engine.specs.Runs.{start_of}
 use Rattle.rrvm.specs.Guests.{guest_bytes}
@@ -50,7 +50,7 @@ pub record Demonstration (n : ℕ) : Type 0 where
   pub runs : run (start_of (demo_header n) firmware) events ≡ Some last
   pub ended : last.control.ended ≡ Some (record { reason = reason; code = code })
   pub by_itself : reason ≤ 2
-  pub no_input : Hears true false [] events []
+  pub no_input : Hears Entire Paid [] events []
   pub still : AreZero (clock_values events)
 
 -- its line: the turns, the console's bytes, and the log's
@@ -80,7 +80,7 @@ pub record IsRecording (start : State) (head bytes shown : List ℕ) : Type 0 wh
   pub runs : run start events ≡ Some last
   pub ended : last.control.ended ≡ Some (record { reason = reason; code = code })
   pub by_itself : reason ≤ 2
-  pub no_input : Hears true false [] events []
+  pub no_input : Hears Entire Paid [] events []
   pub still : AreZero (clock_values events)
   pub log : bytes ≡ head ++ texts events
   pub console : shown ≡ last.devices.uart.out

@@ -1,11 +1,12 @@
 -- How a recording over the devices of a world ends.
-use Rattle.std.specs.Prelude.{◌≡◌, ℕ, Bool, true, false}
+use Rattle.std.specs.Prelude.{◌≡◌, ℕ}
 use Rattle.outside.specs.Ledger.{Ledger, StartsEmpty, source_back, sink_back, clock_back}
 use Rattle.outside.specs.Roles.{at}
 use Rattle.outside.specs.declared.roles.Role.TheVariants.{ConsoleIn, ConsoleOut, LogOut}
 use Rattle.rr_engine.specs.declared.parts.RunEnd.{RunEnd}
 use Rattle.rr_engine.specs.declared.parts.RunEnd.TheVariants as run_end
 use Rattle.rr_engine.specs.Stand.{Devices}
+use Rattle.rr_engine.specs.Input.{Extent, Entire, Part}
 use Rattle.rr_engine.specs.Runs.{IsOwnReason}
 use Rattle.rrvm.specs.declared.recording.RecordingEnd.{RecordingEnd}
 use Rattle.rrvm.specs.declared.recording.RecordingEnd.TheVariants.{End, CannotOpenLog, ConsoleUnreadable, ConsoleFailed, LogFailed, NoMemory}
@@ -15,10 +16,10 @@ abbrev pub IfEnds : RecordingEnd → (ℕ → ℕ → Type 0) → Type 0
 IfEnds (End reason code) P = P reason code × IsOwnReason reason code
 IfEnds other P = Unit {0}
 
--- what holds of whether the console was shown all, where it or its input stopped the run
-abbrev pub IfStops : RecordingEnd → (Bool → Type 0) → Type 0
-IfStops ConsoleUnreadable P = P true
-IfStops ConsoleFailed P = P false
+-- what holds of how much the console was shown, where it or its input stopped the run
+abbrev pub IfStops : RecordingEnd → (Extent → Type 0) → Type 0
+IfStops ConsoleUnreadable P = P Entire
+IfStops ConsoleFailed P = P Part
 IfStops other P = Unit {0}
 
 -- the devices of a recording that were just opened over what the ledger tells

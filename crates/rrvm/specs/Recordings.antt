@@ -1,5 +1,5 @@
 -- What the words ask to record, and what a recording of it writes.
-use Rattle.std.specs.Prelude.{◌≡◌, ◌≤◌, ℕ, Bool, List, [], length, Some, IfSome, Ok}
+use Rattle.std.specs.Prelude.{◌≡◌, ◌≤◌, ℕ, List, [], length, Some, IfSome, Ok}
 use Rattle.std.specs.declared.option.Option.{Option}
 use Rattle.outside.specs.Ledger.{Ledger}
 use Rattle.outside.specs.Roles.{at}
@@ -10,6 +10,7 @@ use Rattle.elf_load.specs.Load.{loaded}
 use Rattle.event_log.specs.declared.header.Header.{Header}
 use Rattle.event_log.specs.HeaderFormat.{header_text}
 use Rattle.rr_engine.specs.Stand.{Devices}
+use Rattle.rr_engine.specs.Input.{Extent}
 use Rattle.rr_engine.specs.Runs.{start_of, Whole, Front, ToStop, IsLogOf}
 use Rattle.rrvm.specs.declared.firmware.TheConstants.{FIRMWARE_LIMIT}
 use Rattle.rrvm.specs.Headers.{header_of}
@@ -54,7 +55,7 @@ HasFront h firmware old new =
 -- The same, where the console or its input stopped the run: the log has all of the events, and END 3
 -- is the last; or, where the console wasn't shown all, an END of the machine's own was due, and the
 -- log has none.
-abbrev pub HasStop : Bool → Header → Loaded → Ledger → Ledger → Type 0
+abbrev pub HasStop : Extent → Header → Loaded → Ledger → Ledger → Type 0
 HasStop shown h firmware old new =
     (left : Option (List ℕ)) × ToStop shown (start_of h firmware) (header_text h) (opened_with old)
     (returned new left)
@@ -68,7 +69,7 @@ pub record IsRecorded (r : Recording) (file : List ℕ) (old new : Ledger) (reas
   pub whole : HasWhole (header_of r file) firmware old new reason code
 
 -- the log of the words' recording of a file has all, up to where the run was stopped
-pub record IsRecordedToStop (r : Recording) (file : List ℕ) (shown : Bool) (old new : Ledger)
+pub record IsRecordedToStop (r : Recording) (file : List ℕ) (shown : Extent) (old new : Ledger)
     : Type 0 where
   pub firmware : Loaded
   pub loads : loaded file r.ram_mib ≡ Ok firmware

@@ -1,4 +1,4 @@
-use Rattle.std.proofs.Common.{true, false}
+use Rattle.rr_engine.specs.Input.{Owed, Paid}
 use Rattle.rr_engine.specs.Stand.{stand}
 use Rattle.rr_engine.proofs.Joining.{begun-goes}
 use Rattle.rr_engine.proofs.Owing.{owes_checkpoint, checkpoint-opens}
@@ -23,7 +23,7 @@ pub returns-in-Ok-clause-goes : goal.returns-in-Ok-clause-goes
 returns-in-Ok-clause-goes g c =
     let p = stand c.args.self.now c.args.parts.now in
     let q = stand c.enter.new.self c.enter.new.parts in
-    begun-goes false true p q _ _ (opened p q c.args.idle c.in-Ok.ensures) c.show.ensures.goes
+    begun-goes Paid Owed p q _ _ (opened p q c.args.idle c.in-Ok.ensures) c.show.ensures.goes
 
 pub returns-in-Ok-clause-progress : goal.returns-in-Ok-clause-progress
 returns-in-Ok-clause-progress g c =

@@ -1,4 +1,4 @@
-use Rattle.std.proofs.Common.{false}
+use Rattle.rr_engine.specs.Input.{Paid}
 use Rattle.rr_engine.specs.Stand.{stand}
 use Rattle.rr_engine.proofs.Stopping.{conclusion-spills}
 use Rattle.rr_engine.proofs.Rounding.{conclude-owed, conclude-goes, conclude-falls, conclude-left, conclude-rests}
@@ -32,6 +32,7 @@ returns-in-Ok-clause-rests g c =
 
 pub returns-in-Err-clause-goes : goal.returns-in-Err-clause-goes
 returns-in-Err-clause-goes g c =
-    conclusion-spills false (stand c.args.self.now c.args.parts.now) (stand c.write_out.new.self c.write_out.new.parts)
+    conclusion-spills Paid (stand c.args.self.now c.args.parts.now)
+    (stand c.write_out.new.self c.write_out.new.parts)
     _ _ _ _ c.args.reason c.args.code c.or_memory.ensures
     c.in-Err.ensures.shows c.requires.going c.requires.due c.finish.ensures

@@ -1,8 +1,9 @@
-use Rattle.std.proofs.Common.{◌≡◌, ℕ, List, true, false, subst}
+use Rattle.std.proofs.Common.{◌≡◌, ℕ, List, false, subst}
 use Rattle.std.specs.Prelude.{Ok, Err}
 use Rattle.std.specs.declared.option.Option.{Option}
 use Rattle.io_workers.specs.Intake.{Gives, Ends, Fails, Nexts}
 use Rattle.io_workers.specs.declared.read_error.ReadError.{ReadError}
+use Rattle.rr_engine.specs.Input.{Owed}
 use Rattle.rr_engine.specs.Stand.{stand}
 use Rattle.rr_engine.proofs.Owing.{owes_piece}
 use Rattle.rr_engine.proofs.Deafening.{deafens}
@@ -69,7 +70,8 @@ returns-in-Err-Failed-clause-goes g c =
     let m = stand (record c.args.self.now { pieces = c.next_piece.new.pieces }) c.next_piece.new.self in
     let next : Fails p.input m.input =
     subst (λ (z : ReadError). Nexts p.input m.input (Err z)) c.in-Err-Failed.field-0-is c.in-Err-Failed.ensures.next in
-    deafens true p m (stand c.stop.new.self c.stop.new.parts) c.or_memory.result c.stop.result c.or_memory.ensures (
+    deafens Owed p m (stand c.stop.new.self c.stop.new.parts) c.or_memory.result c.stop.result
+    c.or_memory.ensures (
       next,
       listened c.args.self.now c.args.parts.now c.next_piece.new.self c.next_piece.new.pieces c.in-Err-Failed.ensures.rest,
     )

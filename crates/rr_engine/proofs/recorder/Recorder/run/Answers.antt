@@ -1,5 +1,5 @@
-use Rattle.std.proofs.Common.{true, false}
 use Rattle.std.specs.Prelude.{Err}
+use Rattle.rr_engine.specs.Input.{Entire, Paid}
 use Rattle.rr_engine.specs.Stand.{stand}
 use Rattle.rr_engine.proofs.Joining.{recorded-none, recorded-then, goes-then}
 use Rattle.rr_engine.proofs.recorder.Recorder.run.Goals as goal
@@ -13,12 +13,13 @@ rounds-init g c = record {
 
 pub rounds-preserved : goal.rounds-preserved
 rounds-preserved g c = record {
-  recorded = recorded-then true false _ (stand c.rounds.self c.rounds.parts) _ c.rounds.invariant.recorded c.in-Ok.ensures.goes;
+  recorded = recorded-then Entire Paid _ (stand c.rounds.self c.rounds.parts) _
+      c.rounds.invariant.recorded c.in-Ok.ensures.goes;
   works = c.in-Ok.ensures.works;
   rests = c.in-Ok.ensures.rests;
 }
 
 pub returns-in-Err-clause-goes : goal.returns-in-Err-clause-goes
 returns-in-Err-clause-goes g c =
-    goes-then false (stand c.args.self.now c.args.parts.now) (stand c.rounds.self c.rounds.parts)
+    goes-then Paid (stand c.args.self.now c.args.parts.now) (stand c.rounds.self c.rounds.parts)
     (stand c.round.new.self c.round.new.parts) (Err c.in-Err.broke) c.rounds.invariant.recorded c.in-Err.ensures.goes

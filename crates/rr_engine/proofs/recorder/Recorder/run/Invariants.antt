@@ -1,4 +1,5 @@
-use Rattle.std.proofs.Common.{◌≡◌, true, false}
+use Rattle.std.proofs.Common.{◌≡◌, false}
+use Rattle.rr_engine.specs.Input.{Entire, Paid}
 use Rattle.rr_engine.specs.Stand.{stand}
 use Rattle.rr_engine.specs.Recording.{Recorded, Rests}
 use Rattle.rr_engine.specs.Work.{work_left}
@@ -7,7 +8,7 @@ use Rattle.rr_engine.proofs.recorder.Recorder.run.Given as goal
 -- what was recorded so far
 abbrev pub invariant-rounds : goal.invariant-rounds
 invariant-rounds g l = record {
-  recorded : Recorded true false (stand l.fn.self l.fn.parts) (stand l.self l.parts);
+  recorded : Recorded Entire Paid (stand l.fn.self l.fn.parts) (stand l.self l.parts);
   works : l.self.log.failed ≡ false;
   rests : Rests (stand l.self l.parts);
 }

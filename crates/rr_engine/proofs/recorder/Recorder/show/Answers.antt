@@ -1,5 +1,5 @@
-use Rattle.std.proofs.Common.{true}
 use Rattle.std.specs.Prelude.{Ok, Err}
+use Rattle.rr_engine.specs.Input.{Entire, Owed}
 use Rattle.rr_engine.specs.Stand.{stand}
 use Rattle.rr_engine.proofs.Joining.{begun-goes}
 use Rattle.rr_engine.proofs.Stopping.{shown, spills}
@@ -25,7 +25,8 @@ pub returns-in-Ok-clause-goes : goal.returns-in-Ok-clause-goes
 returns-in-Ok-clause-goes g c =
     let p = stand c.args.self.now c.args.parts.now in
     let q = stand c.write_out.new.self c.write_out.new.parts in
-    begun-goes true true p q _ _ (shown true p q c.requires.works c.in-Ok.ensures.shows) c.listen.ensures.goes
+    begun-goes Owed Owed p q _ _ (shown Owed p q c.requires.works c.in-Ok.ensures.shows)
+    c.listen.ensures.goes
 
 pub returns-in-Ok-clause-progress : goal.returns-in-Ok-clause-progress
 returns-in-Ok-clause-progress g c =
@@ -44,6 +45,6 @@ stop-requires-clause-silent g c =
 
 pub returns-in-Err-clause-goes : goal.returns-in-Err-clause-goes
 returns-in-Err-clause-goes g c =
-    spills true true (stand c.args.self.now c.args.parts.now)
+    spills Owed Entire (stand c.args.self.now c.args.parts.now)
     (stand c.write_out.new.self c.write_out.new.parts) _ _ _ _
     c.or_memory.ensures c.in-Err.ensures.shows c.stop.ensures

@@ -1,5 +1,6 @@
-use Rattle.std.proofs.Common.{refl, inl, ap, ◌∙◌, true}
+use Rattle.std.proofs.Common.{refl, inl, ap, ◌∙◌}
 use Rattle.uart16550.specs.Line.{Line}
+use Rattle.rr_engine.specs.Input.{Owed}
 use Rattle.rr_engine.specs.Stand.{stand}
 use Rattle.rr_engine.proofs.Owing.{owes_stop, stop-ends, stop-silent}
 use Rattle.rr_engine.proofs.Stopping.{entered-stops, failed-stops}
@@ -10,7 +11,7 @@ enter-requires-clause-owed g c = owes_stop c.args.self.now.machine c.requires.op
 
 pub returns-in-Ok : goal.returns-in-Ok
 returns-in-Ok g c =
-    entered-stops true (stand c.args.self.now c.args.parts.now)
+    entered-stops Owed (stand c.args.self.now c.args.parts.now)
     (stand c.enter.new.self c.enter.new.parts) _ _ _
     (owes_stop c.args.self.now.machine c.requires.open).spelled tt refl
     (λ s. (
@@ -21,5 +22,5 @@ returns-in-Ok g c =
 
 pub returns-in-Err : goal.returns-in-Err
 returns-in-Err g c =
-    failed-stops true (stand c.args.self.now c.args.parts.now) _ _ _
+    failed-stops Owed (stand c.args.self.now c.args.parts.now) _ _ _
     (owes_stop c.args.self.now.machine c.requires.open).spelled tt refl c.in-Err.ensures

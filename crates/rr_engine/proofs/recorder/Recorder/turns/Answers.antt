@@ -1,4 +1,5 @@
-use Rattle.std.proofs.Common.{refl, false}
+use Rattle.std.proofs.Common.{refl}
+use Rattle.rr_engine.specs.Input.{Paid}
 use Rattle.rr_engine.specs.Stand.{stand}
 use Rattle.rr_engine.proofs.Running.{instruction-all, count-spelled, turns-fall, turns-going}
 use Rattle.rr_engine.proofs.Entering.{enters-noted, out-of-memory}
@@ -17,7 +18,8 @@ returns-in-Ok-clause-goes g c =
     entered-goes p _ _ _ spelled refl tt (enters-noted p _ _ _ _ stepped c.note.ensures)
 
 pub returns-in-Err-clause-goes : goal.returns-in-Err-clause-goes
-returns-in-Err-clause-goes g c = out-of-memory false (stand c.args.self.now c.args.parts.now) c.run.new.self
+returns-in-Err-clause-goes g c =
+    out-of-memory Paid (stand c.args.self.now c.args.parts.now) c.run.new.self
 
 pub returns-in-Ok-clause-progress : goal.returns-in-Ok-clause-progress
 returns-in-Ok-clause-progress g c =
