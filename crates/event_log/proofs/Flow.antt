@@ -15,6 +15,7 @@ use Rattle.event_log.specs.declared.stream_error.StreamError.TheVariants as stre
 use Rattle.event_log.specs.Grammar.{Stops, Cut, Bad}
 use Rattle.event_log.specs.Spelling.{event, text}
 use Rattle.event_log.specs.HeaderFormat.{header, header_text}
+use Rattle.event_log.specs.Log.{AsksMemory}
 use Rattle.event_log.specs.declared.header.Header.{Header}
 use Rattle.event_log.specs.Reading.{Reader, Unread, reading, read_so_far, to_limit, ahead, Runs, Stays, Stopped, Waits, Nexts, Ends, Mores, Parses, IsReady, Heads, HeadParses}
 use Rattle.event_log.proofs.Widths.{bad_longer}
@@ -124,6 +125,12 @@ ends_stopped old new stream.TooLong (long, is) = (long, λ within. omega (arith,
 ends_stopped old new stream.NoMemory s = absurd s
 ends_stopped old new (stream.Parse fault) s = absurd s
 
+-- memory that is asked for what is held is asked for what is ahead
+asks_ahead : (left : Option (List ℕ)) (held : List ℕ) → AsksMemory held → IfSome (prepend_known held left) (λ bytes. AsksMemory bytes)
+asks_ahead None held asks = tt
+asks_ahead (Some more) held (e, rest, is, has, parts) =
+    (e, rest ++ more, is, has, ap (λ z. z ++ more) parts ∙ append_assoc (text e) rest more)
+
 -- ---- the event that stands there
 
 module _ (old : Reader) (left : Option (List ℕ)) (faults : ℕ) (mid new : Unread)
@@ -161,7 +168,9 @@ module _ (old : Reader) (left : Option (List ℕ)) (faults : ℕ) (mid new : Unr
       )
 
   pub parsed_short : Parses mid new (Err parse.NoMemory) → Nexts old (reading left faults new) (Err stream.NoMemory)
-  parsed_short same = subst (λ r. Nexts old (reading left faults r) (Err stream.NoMemory)) (sym same) (run, stay)
+  parsed_short (same, asks) =
+      subst (λ r. Nexts old (reading left faults r) (Err stream.NoMemory)) (sym same)
+      (run, stay, told_after AsksMemory (ahead old) (prepend_known mid.held left) stay.bytes (asks_ahead left mid.held asks))
 
 -- the last event is cut
 pub parsed_cut : (old new : Reader) (left : Option (List ℕ)) (faults : ℕ) (mid last : Unread) (offset : ℕ)

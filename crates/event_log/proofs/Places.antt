@@ -10,7 +10,7 @@ use Rattle.event_log.specs.Grammar.{Fault}
 use Rattle.event_log.specs.Grammar.{Cut, Bad}
 use Rattle.event_log.specs.Grammar.{read, Spells, Stops, Meets}
 use Rattle.event_log.specs.Spelling.{event, text, IsEvent}
-use Rattle.event_log.specs.Log.{Stands, Answers, Unless}
+use Rattle.event_log.specs.Log.{Stands, Answers, Unless, FindsBytes, AsksMemory}
 use Rattle.event_log.proofs.Exact.{read_meets, meets_read}
 use Rattle.event_log.proofs.Numbers.{IsBytes}
 use Rattle.event_log.proofs.Spelled.{text_spells}
@@ -33,6 +33,13 @@ read_stands bytes at e rest within are is =
     let left : drop (length (text e)) (drop at bytes) ≡ rest = ap (λ z. drop (length (text e)) z) t.1 ∙ drop_at (text e) rest (length (text e)) refl in
     let follows : drop (length bytes - length rest) bytes ≡ rest = ap (λ n. drop n bytes) next ∙ sym (drop-drop (length (text e)) at bytes) ∙ left in
     (omega arith, (t.0, t.1 ∙ ap (λ z. text e ++ z) (sym follows), next))
+
+-- memory is asked where reading gives an event that has bytes
+pub read_asks : (bytes : List ℕ) (found : Result (Event × List ℕ) (Fault Rule)) → IsBytes bytes → read event bytes ≡ found → FindsBytes found → AsksMemory bytes
+read_asks bytes (Ok f) are is holds =
+    let t = spells_text bytes f.0 f.1 are (read_spells bytes f.0 f.1 is) in
+    (f.0, f.1, t.0, holds, t.1)
+read_asks bytes (Err fault) are is holds = absurd holds
 
 -- ---- from what is answered
 

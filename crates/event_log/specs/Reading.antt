@@ -12,6 +12,7 @@ use Rattle.event_log.specs.declared.stream_error.StreamError.TheVariants as stre
 use Rattle.event_log.specs.Grammar.{Stops, Cut, Bad}
 use Rattle.event_log.specs.Spelling.{event, text, IsEvent}
 use Rattle.event_log.specs.HeaderFormat.{header, header_text, IsHeader}
+use Rattle.event_log.specs.Log.{AsksMemory}
 
 -- what a reader holds of a log
 pub record Unread : Type 0 where
@@ -129,7 +130,8 @@ Nexts old new (Err (stream.Parse parse.NoMemory)) = ⊥
 Nexts old new (Err stream.Failed) = Breaks old new
 Nexts old new (Err stream.TooLong) = Overran old new
     (IfSome (ahead old) (λ bytes. Stops event (to_limit old.unread.place bytes) Cut))
-Nexts old new (Err stream.NoMemory) = Runs old new × Stays old new
+Nexts old new (Err stream.NoMemory) =
+    Runs old new × Stays old new × IfSome (ahead old) (λ bytes. AsksMemory bytes)
 
 -- whether nothing is ahead
 abbrev pub Ends : Reader → Reader → Result Bool StreamError → Type 0
@@ -157,7 +159,7 @@ Parses old new (Err (parse.Bad offset rule)) =
     (new ≡ old) × (offset ≡ old.place) × Stops event old.held (Bad rule)
 Parses old new (Err (parse.Cut offset)) =
     (new ≡ old) × (offset ≡ old.place) × Stops event old.held Cut × (length old.held < 1525)
-Parses old new (Err parse.NoMemory) = new ≡ old
+Parses old new (Err parse.NoMemory) = (new ≡ old) × AsksMemory old.held
 
 -- the header at the front of what is held, or the first fault there
 abbrev pub HeadParses : Unread → Unread → Result Header ParseError → Type 0

@@ -115,9 +115,10 @@ impl WriteBehind {
 
     /// Sends what is held.
     pub fn finish<S: Sink>(&mut self, sink: &mut Careful<S>) -> Result<(), StreamError>
-        ensures { Sends (writing (S.taken sink.old) (S.faults sink.old) self.old)
+        ensures bytes { Sends (writing (S.taken sink.old) (S.faults sink.old) self.old)
             (writing (S.taken sink.new) (S.faults sink.new) self.new)
             self.old.held [] result }
+        ensures no_memory { IfErr result (λ e. e ≡ Failed) }
     {
         if self.failed {
             return Err(StreamError::Failed);

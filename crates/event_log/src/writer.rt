@@ -1,11 +1,12 @@
 //! A log that is written event by event.
 
-ghost use Rattle.std.specs.Prelude.{◌≡◌, ◌++◌, ◌≤◌, length, List, ℕ, [], IfOk, Result};
+ghost use Rattle.std.specs.Prelude.{◌≡◌, ◌++◌, ◌≤◌, length, List, ℕ, [], IfOk, IfErr, Result};
 ghost use Rattle.std.specs.declared.option.Option.{Option};
 ghost use Rattle.outside.specs.Told.{Takes};
 ghost use Rattle.event_log.specs.declared.event.Event.{Event as AnEvent};
 ghost use Rattle.event_log.specs.declared.header.Header.{Header as AHeader};
 ghost use Rattle.event_log.specs.declared.stream_error.StreamError.{StreamError as AStreamError};
+ghost use Rattle.event_log.specs.declared.stream_error.StreamError.TheVariants.{Failed};
 ghost use Rattle.event_log.specs.HeaderFormat.{header_text, IsHeader};
 ghost use Rattle.event_log.specs.Spelling.{text, IsEvent};
 ghost use Rattle.event_log.specs.Writing.{Writer, writing, none_written, sent, kept, Sends, Wrote, Writes};
@@ -83,7 +84,8 @@ impl<S: Sink> LogWriter<S> {
 
     /// Sends what is held.
     pub fn finish(&mut self) -> Result<(), StreamError>
-        ensures { Sends self.old self.new self.old.unsent.held [] result }
+        ensures bytes { Sends self.old self.new self.old.unsent.held [] result }
+        ensures no_memory { IfErr result (λ e. e ≡ Failed) }
     {
         self.unsent.finish(&mut self.sink)
     }
