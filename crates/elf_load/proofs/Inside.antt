@@ -11,14 +11,14 @@ use Rattle.elf_load.specs.declared.pieces.Loaded.{Loaded}
 use Rattle.elf_load.specs.declared.program_header.ProgramHeader.{ProgramHeader}
 use Rattle.elf_load.specs.Fields.{u16_at, u32_at, ram_start, lies_in, LiesIn}
 use Rattle.elf_load.specs.Rules.{first_broken, is_entry, file_rules}
-use Rattle.elf_load.specs.Segments.{header, is_loaded, segment_rules, bytes_of, piece, unless_broken, with_segment, with_header, segments}
+use Rattle.elf_load.specs.Segments.{header, is_loaded, segment_rules, bytes_of, piece, unless_broken, broken_by, with_piece, first_of, first_broken_by, pieces_of, segments}
 use Rattle.elf_load.specs.Load.{is_elf, raw, entered, executable_unless, loaded, Loads, IsInside, LiesInRam}
 
 lies : (ram at len : ℕ) → lies_in ram at len ≡ true → LiesIn ram at len
 lies ram at len e = let both : _ = and_parts _ _ e in (leb-true _ _ both.0, leb-true _ _ both.1)
 
 -- where no rule is broken each test holds
-passes : (rules : List (Bool × LoadError)) → first_broken rules ≡ None → AllByRecursion (λ rule. rule.0 ≡ true) rules
+pub passes : (rules : List (Bool × LoadError)) → first_broken rules ≡ None → AllByRecursion (λ rule. rule.0 ≡ true) rules
 passes [] e = tt
 passes ((true, name) ∷ rules) e = (refl, passes rules e)
 passes ((false, name) ∷ rules) e = absurd cc
@@ -26,6 +26,10 @@ passes ((false, name) ∷ rules) e = absurd cc
 none_broken : {X : Type 0} (broken : Option LoadError) (x y : X) → unless_broken broken x ≡ Ok y → (broken ≡ None) × (x ≡ y)
 none_broken None x y e = (refl, cc)
 none_broken (Some rule) x y e = absurd cc
+
+pub both_none : (one other : Option LoadError) → first_of one other ≡ None → (one ≡ None) × (other ≡ None)
+both_none None other e = (refl, e)
+both_none (Some rule) other e = absurd cc
 
 all_more : {X : Type 0} (P : X → Type 0) (xs : List X) (x : X) → AllByRecursion P xs → P x → AllByRecursion P (xs ++ x ∷ [])
 all_more P [] x all p = (p, all)
@@ -46,33 +50,29 @@ module _ (file : List ℕ) (ram : ℕ) where
       let is : length (bytes_of file h) ≡ h.memory_size = long file h (leb-true _ _ sizes) (leb-true _ _ within)
       in rw is (lies ram h.address h.memory_size inside)
 
-  one_inside : (pieces more : List Piece) (h : ProgramHeader) → Inside pieces → unless_broken (first_broken (segment_rules file ram h)) (pieces ++ piece file h ∷ []) ≡ Ok more → Inside more
-  one_inside pieces more h all e =
-      let k : (first_broken (segment_rules file ram h) ≡ None) × (pieces ++ piece file h ∷ [] ≡ more) = none_broken _ _ _ e
-      in let test : AllByRecursion (λ rule. rule.0 ≡ true) (segment_rules file ram h) = passes (segment_rules file ram h) k.0
-      in subst Inside k.1 (all_more (IsInside ram) pieces (piece file h) all (piece_inside h test.0 test.1.0 test.1.1.0))
+  one_inside : (pieces : List Piece) (h : ProgramHeader) → Inside pieces → first_broken (segment_rules file ram h) ≡ None → Inside (pieces ++ piece file h ∷ [])
+  one_inside pieces h all e =
+      let test : AllByRecursion (λ rule. rule.0 ≡ true) (segment_rules file ram h) = passes (segment_rules file ram h) e
+      in all_more (IsInside ram) pieces (piece file h) all (piece_inside h test.0 test.1.0 test.1.1.0)
 
-  abbrev given : List Piece → Result (List Piece) LoadError
-  given pieces = Ok pieces
-
-  same_pieces : (pieces more : List Piece) → given pieces ≡ Ok more → pieces ≡ more
-  same_pieces pieces more e = cc
-
-  segment_inside : (pieces more : List Piece) (h : ProgramHeader) → Inside pieces → with_segment file ram pieces h ≡ Ok more → Inside more
-  segment_inside pieces more h all e =
+  segment_inside : (pieces : List Piece) (h : ProgramHeader) → Inside pieces → broken_by file ram h ≡ None → Inside (with_piece file pieces h)
+  segment_inside pieces h all e =
       elim (cases_Bool (is_loaded h)) [
-        | inl yes_loaded ↦ one_inside pieces more h all (rw yes_loaded at e)
-        | inr not_loaded ↦ subst Inside (same_pieces pieces more (rw not_loaded at e)) all
+        | inl yes_loaded ↦ rw yes_loaded (one_inside pieces h all (rw yes_loaded at e))
+        | inr not_loaded ↦ rw not_loaded all
       ]
 
-  header_inside : (before : Result (List Piece) LoadError) (more : List Piece) (h : ProgramHeader) → ((pieces : List Piece) → before ≡ Ok pieces → Inside pieces) → with_header file ram before h ≡ Ok more → Inside more
-  header_inside (Ok pieces) more h all e = segment_inside pieces more h (all pieces refl) e
-  header_inside (Err rule) more h all e = absurd cc
+  pieces_inside : (n : ℕ) → first_broken_by file ram n ≡ None → Inside (pieces_of file n)
+  unfolding first_broken_by pieces_of
+  pieces_inside zero e = tt
+  pieces_inside (suc n) e =
+      let none = both_none (first_broken_by file ram n) (broken_by file ram (header file n)) e in
+      segment_inside (pieces_of file n) (header file n) (pieces_inside n none.0) none.1
 
   segments_inside : (n : ℕ) (pieces : List Piece) → segments file ram n ≡ Ok pieces → Inside pieces
-  unfolding segments
-  segments_inside zero pieces e = subst Inside (same_pieces [] pieces e) tt
-  segments_inside (suc n) pieces e = header_inside (segments file ram n) pieces (header file n) (segments_inside n) e
+  segments_inside n pieces e =
+      let k : (first_broken_by file ram n ≡ None) × (pieces_of file n ≡ pieces) = none_broken _ _ _ e
+      in subst Inside k.1 (pieces_inside n k.0)
 
   -- the entry of a file header that breaks no rule
   entry_inside : first_broken (file_rules file ram) ≡ None → is_entry ram (u32_at file 24) ≡ true

@@ -39,7 +39,7 @@ executable file ram = executable_unless (first_broken (file_rules file ram)) fil
 abbrev pub loaded : List ℕ → ℕ → Result Loaded LoadError
 loaded file mib = if is_elf file then executable file (mib * 2 ^ 20) else raw file (mib * 2 ^ 20)
 
--- the answer is that, but for want of memory
+-- the answer is that, or want of memory where it is no rule
 abbrev pub Loads : Result Loaded LoadError → Result Loaded LoadError → Type 0
 Loads given answer = Gives given answer
 

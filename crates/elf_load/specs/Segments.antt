@@ -1,5 +1,5 @@
 -- The segments that the program headers describe (gABI, "Program Header"), and their pieces.
-use Rattle.std.specs.Prelude.{ℕ, zero, suc, Bool, ◌+◌, ◌-◌, ◌*◌, ◌==◌, ◌&&◌, not, nat_le, ◌≡◌, ◌≢◌, Option, Some, None, Result, Ok, Err, List, [], ◌∷◌, ◌++◌, length, take, drop, replicate, if◌then◌else◌}
+use Rattle.std.specs.Prelude.{ℕ, zero, suc, Bool, ◌+◌, ◌-◌, ◌*◌, ◌==◌, ◌&&◌, not, nat_le, ◌≡◌, ◌≢◌, ◌≤◌, true, Option, Some, None, Result, Ok, Err, IsOk, List, [], ◌∷◌, ◌++◌, length, take, drop, replicate, if◌then◌else◌}
 use Rattle.elf_load.specs.declared.error.LoadError.{LoadError}
 use Rattle.elf_load.specs.declared.error.LoadError.TheVariants.{Sizes, File, Memory, NoMemory}
 use Rattle.elf_load.specs.declared.pieces.Piece.{Piece}
@@ -47,30 +47,41 @@ abbrev pub unless_broken : {X : Type 0} → Option LoadError → X → Result X 
 unless_broken None x = Ok x
 unless_broken (Some rule) x = Err rule
 
--- the pieces with that of one more segment
-abbrev pub with_segment : List ℕ → ℕ → List Piece → ProgramHeader → Result (List Piece) LoadError
-with_segment file ram pieces h =
-    if is_loaded h
-    then unless_broken (first_broken (segment_rules file ram h)) (pieces ++ piece file h ∷ [])
-    else Ok pieces
+-- the first rule that a segment breaks, where it is loaded
+abbrev pub broken_by : List ℕ → ℕ → ProgramHeader → Option LoadError
+broken_by file ram h = if is_loaded h then first_broken (segment_rules file ram h) else None
 
--- the same where no earlier segment broke a rule
-abbrev pub with_header : List ℕ → ℕ → Result (List Piece) LoadError → ProgramHeader
-    → Result (List Piece) LoadError
-with_header file ram (Ok pieces) h = with_segment file ram pieces h
-with_header file ram (Err rule) h = Err rule
+-- the pieces with that of one more segment, where it is loaded
+abbrev pub with_piece : List ℕ → List Piece → ProgramHeader → List Piece
+with_piece file pieces h = if is_loaded h then pieces ++ piece file h ∷ [] else pieces
 
--- the pieces of the first n segments, in order, or the first rule that one of them breaks
-unfoldable pub segments : List ℕ → ℕ → ℕ → Result (List Piece) LoadError
-segments file ram zero = Ok []
-segments file ram (suc n) = with_header file ram (segments file ram n) (header file n)
+-- the rule that is broken first, or else the one that is broken then
+abbrev pub first_of : Option LoadError → Option LoadError → Option LoadError
+first_of None later = later
+first_of (Some rule) later = Some rule
 
--- the answer is what is given, but for want of memory
+-- the first rule that one of the first n segments breaks
+unfoldable pub first_broken_by : List ℕ → ℕ → ℕ → Option LoadError
+first_broken_by file ram zero = None
+first_broken_by file ram (suc n) =
+    first_of (first_broken_by file ram n) (broken_by file ram (header file n))
+
+-- the pieces of the first n segments, in order
+unfoldable pub pieces_of : List ℕ → ℕ → List Piece
+pieces_of file zero = []
+pieces_of file (suc n) = with_piece file (pieces_of file n) (header file n)
+
+-- the pieces of the first n segments, or the first rule that one of them breaks
+abbrev pub segments : List ℕ → ℕ → ℕ → Result (List Piece) LoadError
+segments file ram n = unless_broken (first_broken_by file ram n) (pieces_of file n)
+
+-- a segment that is loaded has its bytes in the file
+abbrev pub HasBytes : List ℕ → ProgramHeader → Type 0
+HasBytes file h = is_loaded h ≡ true
+    → (h.file_size ≤ h.memory_size) × (h.offset + h.file_size ≤ length file)
+
+-- The answer is what is given. Memory is refused only where no rule is broken.
 abbrev pub Gives : {X : Type 0} → Result X LoadError → Result X LoadError → Type 0
 Gives given (Ok x) = given ≡ Ok x
-Gives given (Err rule) = rule ≢ NoMemory → given ≡ Err rule
-
--- the same for a call that changes the pieces
-abbrev pub Adds : Result (List Piece) LoadError → Result Unit LoadError → List Piece → Type 0
-Adds given (Ok _) pieces = given ≡ Ok pieces
-Adds given (Err rule) pieces = rule ≢ NoMemory → given ≡ Err rule
+Gives given (Err rule) =
+    (rule ≢ NoMemory → given ≡ Err rule) × (rule ≡ NoMemory → IsOk given)

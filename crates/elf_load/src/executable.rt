@@ -1,11 +1,13 @@
 //! An ELF executable.
 
-ghost use Rattle.std.specs.Prelude.{◌≡◌, ◌+◌, ◌*◌, ◌≤◌, ◌<◌, ◌^◌, length, None};
+ghost use Rattle.std.specs.Prelude.{◌≡◌, ◌≢◌, ◌+◌, ◌*◌, ◌≤◌, ◌<◌, ◌^◌, ℕ, length, Some, None, IfOk};
+ghost use Rattle.elf_load.specs.declared.error.LoadError.TheVariants.{NoMemory};
 ghost use Rattle.elf_load.specs.Fields.{e_phoff, e_phnum};
 ghost use Rattle.elf_load.specs.Rules.{first_broken, file_rules, is_entry, has_table};
-ghost use Rattle.elf_load.specs.Segments.{segments, Gives};
+ghost use Rattle.elf_load.specs.Segments.{header, HasBytes, first_broken_by, pieces_of};
 ghost use Rattle.elf_load.specs.Load.{executable, Loads};
 
+use crate::NoMemory;
 use crate::error::LoadError;
 use crate::fields::{
     E_ENTRY, E_MACHINE, E_PHENTSIZE, E_PHNUM, E_PHOFF, E_TYPE, EI_CLASS, EI_DATA, FILE_HEADER,
@@ -32,6 +34,7 @@ const MOST_HEADERS: u16 = 64;
 fn broken(file: &[u8], ram: u64) -> Option<LoadError>
     requires { ram < 2 ^ 60 }
     ensures rule { result ≡ first_broken (file_rules file.now ram) }
+    ensures named { result ≢ Some NoMemory }
     ensures header { result ≡ None → 52 ≤ length file.now }
     ensures table { result ≡ None
         → e_phoff file.now + 32 * e_phnum file.now ≤ length file.now }
@@ -75,26 +78,49 @@ fn has_table(file: &[u8]) -> bool
         && end <= file.len()
 }
 
-/// The pieces of all segments, in order, or the first rule that one of them breaks.
-#[tactic(auto, using(crate::proofs::Scan::no_segments, crate::proofs::Scan::next_segment))]
-fn segments(alloc: Global, file: &[u8], ram: u64) -> Result<Pieces, LoadError>
+/// The first rule that a segment breaks.
+#[tactic(auto, using(crate::proofs::Scan::none_broken_yet, crate::proofs::Scan::next_broken))]
+fn broken_segment(file: &[u8], ram: u64) -> Option<LoadError>
     requires ram { ram < 2 ^ 60 }
     requires header { 52 ≤ length file.now }
     requires table { e_phoff file.now + 32 * e_phnum file.now ≤ length file.now }
-    ensures { Gives (segments file.now ram (e_phnum file.now)) result }
+    ensures rule { result ≡ first_broken_by file.now ram (e_phnum file.now) }
+    ensures named { result ≢ Some NoMemory }
 {
-    let table = u32_at(file, E_PHOFF) as usize;
+    for k in 0..u16_at(file, E_PHNUM) as usize {
+        let rule = header_at(file, k).broken(file, ram);
+        if rule.is_some() {
+            return rule;
+        }
+    }
+    None
+}
+
+/// The pieces of all segments, in order.
+#[tactic(auto, using(crate::proofs::Scan::no_pieces, crate::proofs::Scan::next_piece))]
+fn pieces(alloc: Global, file: &[u8]) -> Result<Pieces, NoMemory>
+    requires header { 52 ≤ length file.now }
+    requires table { e_phoff file.now + 32 * e_phnum file.now ≤ length file.now }
+    requires bytes { (k : ℕ) → k < e_phnum file.now → HasBytes file.now (header file.now k) }
+    ensures { IfOk result (λ pieces. pieces ≡ pieces_of file.now (e_phnum file.now)) }
+{
     let mut pieces = Pieces::new(alloc);
     for k in 0..u16_at(file, E_PHNUM) as usize {
-        let header = ProgramHeader::at(file, table + PROGRAM_HEADER * k);
-        if let Err(rule) = header.add(alloc, file, ram, &mut pieces) {
-            return Err(rule);
-        }
+        header_at(file, k).add(alloc, file, &mut pieces)?;
     }
     Ok(pieces)
 }
 
-/// Loads an executable.
+/// The program header with this number.
+fn header_at(file: &[u8], k: usize) -> ProgramHeader
+    requires header { 52 ≤ length file.now }
+    requires table { e_phoff file.now + 32 * (k + 1) ≤ length file.now }
+    ensures { result ≡ header file.now k }
+{
+    ProgramHeader::at(file, u32_at(file, E_PHOFF) as usize + PROGRAM_HEADER * k)
+}
+
+/// Loads an executable. All segments are judged before memory is asked.
 pub(crate) fn load_executable(alloc: Global, file: &[u8], ram: u64) -> Result<Loaded, LoadError>
     requires { ram < 2 ^ 60 }
     ensures { Loads (executable file.now ram) result }
@@ -102,7 +128,14 @@ pub(crate) fn load_executable(alloc: Global, file: &[u8], ram: u64) -> Result<Lo
     if let Some(rule) = broken(file, ram) {
         return Err(rule);
     }
-    let pieces = segments(alloc, file, ram)?;
-    let entry = u32_at(file, E_ENTRY);
-    Ok(Loaded { entry, pieces })
+    if let Some(rule) = broken_segment(file, ram) {
+        return Err(rule);
+    }
+    match pieces(alloc, file) {
+        Ok(pieces) => Ok(Loaded {
+            entry: u32_at(file, E_ENTRY),
+            pieces,
+        }),
+        Err(_) => Err(LoadError::NoMemory),
+    }
 }

@@ -1,8 +1,8 @@
 //! A program header, which describes a segment (gABI, "Program Header").
 
-ghost use Rattle.std.specs.Prelude.{◌≡◌, ◌+◌, ◌≤◌, ◌<◌, ◌^◌, length, Ok, None, IfOk};
-ghost use Rattle.elf_load.specs.Segments.{header_at, is_loaded, segment_rules, bytes_of, Adds, with_header};
-ghost use Rattle.elf_load.specs.Rules.{first_broken};
+ghost use Rattle.std.specs.Prelude.{◌≡◌, ◌≢◌, ◌+◌, ◌≤◌, ◌<◌, ◌^◌, length, Some, IfOk, OnOk};
+ghost use Rattle.elf_load.specs.declared.error.LoadError.TheVariants.{NoMemory};
+ghost use Rattle.elf_load.specs.Segments.{header_at, is_loaded, broken_by, bytes_of, HasBytes, with_piece};
 
 use crate::NoMemory;
 use crate::error::LoadError;
@@ -47,14 +47,15 @@ impl ProgramHeader {
         self.kind == LOADED && self.memory_size != 0
     }
 
-    /// The first rule that the segment breaks.
-    fn broken(&self, file: &[u8], ram: u64) -> Option<LoadError>
+    /// The first rule that the segment breaks, if it fills a part of the memory.
+    pub(crate) fn broken(&self, file: &[u8], ram: u64) -> Option<LoadError>
         requires { ram < 2 ^ 60 }
-        ensures rule { result ≡ first_broken (segment_rules file.now ram self.now) }
-        ensures sizes { result ≡ None → self.now.file_size ≤ self.now.memory_size }
-        ensures file { result ≡ None → self.now.offset + self.now.file_size ≤ length file.now }
+        ensures rule { result ≡ broken_by file.now ram self.now }
+        ensures named { result ≢ Some NoMemory }
     {
-        if self.file_size > self.memory_size {
+        if !self.is_loaded() {
+            None
+        } else if self.file_size > self.memory_size {
             Some(LoadError::Sizes)
         } else if self.offset as usize + self.file_size as usize > file.len() {
             Some(LoadError::File)
@@ -77,34 +78,23 @@ impl ProgramHeader {
         Ok(Bytes::from_vec(bytes))
     }
 
-    /// Adds the segment's piece, or answers the first rule that it breaks.
+    /// Adds the segment's piece, if it fills a part of the memory.
     pub(crate) fn add(
         &self,
         alloc: Global,
         file: &[u8],
-        ram: u64,
         pieces: &mut Pieces,
-    ) -> Result<(), LoadError>
-        requires { ram < 2 ^ 60 }
-        ensures { Adds (with_header file.now ram (Ok pieces.old) self.now) result pieces.new }
+    ) -> Result<(), NoMemory>
+        requires { HasBytes file.now self.now }
+        ensures { OnOk result (pieces.new ≡ with_piece file.now pieces.old self.now) }
     {
         if !self.is_loaded() {
             return Ok(());
         }
-        if let Some(rule) = self.broken(file, ram) {
-            return Err(rule);
-        }
-        let bytes = match self.bytes(alloc, file) {
-            Ok(bytes) => bytes,
-            Err(_) => return Err(LoadError::NoMemory),
-        };
-        let piece = Piece {
+        let bytes = self.bytes(alloc, file)?;
+        pieces.push(Piece {
             at: self.address,
             bytes,
-        };
-        match pieces.push(piece) {
-            Ok(()) => Ok(()),
-            Err(_) => Err(LoadError::NoMemory),
-        }
+        })
     }
 }
