@@ -69,3 +69,7 @@ place_lt id xs m e = go (nat_lt (position_or_len (λ x. is_done id x) xs) (lengt
     go : (b : Bool) → nat_lt (position_or_len (λ x. is_done id x) xs) (length xs) ≡ b → cond b (Some (position_or_len (λ x. is_done id x) xs)) None ≡ Some m → m < length xs
     go true is e = let same : position_or_len (λ x. is_done id x) xs ≡ m = cc in let lt : position_or_len (λ x. is_done id x) xs < length xs = grind (arith, nat_tests) in subst (λ n. n < length xs) same lt
     go false is e = cc
+
+-- a place was found where one is
+pub some_done : (id : ℕ) (xs : List Item) (m : ℕ) → position (λ x. is_done id x) xs ≡ Some m → done_of id (map short xs) ≡ None → ⊥
+some_done id xs m e none = let first = (place id xs m (item.Console []) e).first in cc

@@ -11,13 +11,18 @@ use Rattle.plain_hub.specs.Past.{Past, and_then}
 use Rattle.plain_hub.specs.Proper.{Promised}
 use Rattle.plain_hub.proofs.Contained.{all_removed}
 use Rattle.plain_hub.proofs.Keeping.{kept_more, still_promised, no_end}
-use Rattle.plain_hub.proofs.Places.{no_place, place, place_lt}
+use Rattle.plain_hub.proofs.Places.{no_place, place, place_lt, some_done}
 use Rattle.plain_hub.proofs.hub.PlainHub.take_done.Goals as goal
 
 pub returns-in_default-clause-why : goal.returns-in_default-clause-why
 returns-in_default-clause-why c =
     let none_there = no_place c.args.id c.as_slice.result.now (sym c.place_of.ensures ∙ c.in_default.is) in
     ap (λ (q : Past). done_of c.args.id (state_of q.entries).items) (sym c.self.view_is) ∙ ap (done_of c.args.id) (sym c.self.invariant.shows.items ∙ ap (map short) (sym c.as_slice.ensures.value)) ∙ none_there
+
+pub returns-then-is_err-clause-why : goal.returns-then-is_err-clause-why
+returns-then-is_err-clause-why c = λ none.
+    let same = ap (λ (q : Past). done_of c.args.id (state_of q.entries).items) (sym c.self.view_is) ∙ ap (done_of c.args.id) (sym c.self.invariant.shows.items ∙ ap (map short) (sym c.as_slice.ensures.value)) in
+    some_done c.args.id c.as_slice.result.now c.in-Some.at (sym c.place_of.ensures ∙ c.in-Some.is) (sym same ∙ none)
 
 pub invariant_of-self-2 : goal.invariant_of-self-2
 invariant_of-self-2 c =
