@@ -1,5 +1,5 @@
 -- What a call gives, and when it is refused.
-use Rattle.std.specs.Prelude.{◌≡◌, ℕ, List, [], ◌∷◌, ◌++◌, true, false, None, Bool, All, length, vec_len}
+use Rattle.std.specs.Prelude.{◌≡◌, ◌≢◌, ℕ, List, [], ◌∷◌, ◌++◌, true, false, None, Bool, All, length, vec_len}
 use Rattle.plain_hub.specs.declared.entry.Entry.{Entry}
 use Rattle.plain_hub.specs.declared.entry.Call.TheVariants.{Flush, TakeDone}
 use Rattle.plain_hub.specs.declared.item.Item.{Item}
@@ -19,23 +19,29 @@ use Rattle.replay_mutex.specs.declared.errors.ClaimError.{ClaimError}
 use Rattle.replay_mutex.specs.declared.errors.ClaimError.TheVariants as claim
 use Rattle.replay_mutex.specs.Shown.{Goes, Makes, Looks}
 
--- after the first k entries the hub isn't stopped and has no job, or it is stopped
+-- after the first k entries the hub isn't stopped and has no job, or it is stopped;
+-- memory is refused only where a job is there
 abbrev pub ClaimFails : View → View → ClaimError → Type 0
 ClaimFails v w (claim.Empty k) =
     Looks v w k × ((state_of w.seen).stopped ≡ false) × ((state_of w.seen).jobs ≡ [])
 ClaimFails v w (claim.Stopped k) = Looks v w k × ((state_of w.seen).stopped ≡ true)
-ClaimFails v w claim.NoMemory = w ≡ v
+ClaimFails v w claim.NoMemory =
+    Looks v w (length w.seen) × ((state_of w.seen).stopped ≡ false) × ((state_of w.seen).jobs ≢ [])
 
--- after the first k entries the hub is stopped; the item comes back
+-- after the first k entries the hub is stopped, or it isn't and memory is refused; the item comes
+-- back
 abbrev pub PostFails : View → View → Item → PostError → Type 0
 PostFails v w x (post.Stopped k y) =
     Looks v w k × ((state_of w.seen).stopped ≡ true) × (y ≡ x)
-PostFails v w x (post.NoMemory y) = (w ≡ v) × (y ≡ x)
+PostFails v w x (post.NoMemory y) =
+    Looks v w (length w.seen) × ((state_of w.seen).stopped ≡ false) × (y ≡ x)
 
--- after the first k entries no posted item is the Done of this id
+-- after the first k entries no posted item is the Done of this id; memory is refused only where
+-- one is
 abbrev pub TakeFails : View → View → ℕ → TakeError → Type 0
 TakeFails v w id (take.NotYet k) = Looks v w k × (done_of id (state_of w.seen).items ≡ None)
-TakeFails v w id take.NoMemory = w ≡ v
+TakeFails v w id take.NoMemory =
+    Looks v w (length w.seen) × (done_of id (state_of w.seen).items ≢ None)
 
 -- the Done was taken, and it is as promised
 abbrev pub TakesDone : View → View → ℕ → Item → Type 0

@@ -89,7 +89,7 @@ impl Hub {
                 Err(TakeError::NotYet(count))
             }
             Err(TakeRefusal::NoMemory) => {
-                give_up(top, &mut pass.seat, hub);
+                answer(top, &mut pass.seat, hub);
                 Err(TakeError::NoMemory)
             }
         }

@@ -7,7 +7,7 @@ ghost use Rattle.plain_hub.specs.Proper.{LiesIn, MayPost, Owes};
 ghost use Rattle.replay_mutex.specs.Shown.{knows, IsPassOf, IsSame, own, Makes};
 ghost use Rattle.replay_mutex.specs.Answers.{ClaimFails, PostFails};
 
-use crate::lock::{answer, enter, give_up, take_out};
+use crate::lock::{answer, enter, take_out};
 use crate::{ClaimError, Hub, Item, Job, Pass, PostError, Why};
 use plain_hub::{ClaimRefusal, PostRefusal};
 use std::sync::Wait;
@@ -40,7 +40,7 @@ impl Hub {
                 Err(ClaimError::Stopped(count))
             }
             Err(ClaimRefusal::NoMemory) => {
-                give_up(top, &mut pass.seat, hub);
+                answer(top, &mut pass.seat, hub);
                 Err(ClaimError::NoMemory)
             }
         }
@@ -68,7 +68,7 @@ impl Hub {
                 Err(PostError::Stopped(count, item))
             }
             Err(PostRefusal::NoMemory(item)) => {
-                give_up(top, &mut pass.seat, hub);
+                answer(top, &mut pass.seat, hub);
                 Err(PostError::NoMemory(item))
             }
         }
