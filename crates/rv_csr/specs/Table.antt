@@ -1,6 +1,6 @@
 -- The table of the control registers, and reading and writing by it (Privileged ISA, 2.2 CSR
 -- Listing, and 3.1 Machine-Level CSRs).
-use Rattle.std.specs.Prelude.{ℕ, Bool, true, false, ◌+◌, ◌*◌, ◌/◌, ◌%◌, ◌^◌, ◌==◌, ◌&&◌, ◌||◌, not, Option, Some, None, Result, Ok, Err, ◌≡◌, if◌then◌else◌, List, [], ◌∷◌}
+use Rattle.std.specs.Prelude.{ℕ, zero, suc, Bool, true, false, ◌+◌, ◌*◌, ◌/◌, ◌%◌, ◌^◌, ◌==◌, ◌&&◌, ◌||◌, not, Option, Some, None, Result, Ok, Err, ◌≡◌, if◌then◌else◌, List, [], ◌∷◌}
 use Rattle.std.specs.Int.RustNames.{bit_and, bit_or}
 use Rattle.rv_csr.specs.declared.mode.Mode.{Mode}
 use Rattle.rv_csr.specs.declared.mode.Mode.TheVariants.{U, M}
@@ -144,6 +144,11 @@ ticked c retired = record c {
   cycle_written = false;
   instret_written = false;
 }
+
+-- the registers after so many turns that retired
+unfoldable pub ticked_times : ℕ → Control → Control
+ticked_times zero c = c
+ticked_times (suc n) c = ticked (ticked_times n c) true
 
 -- an illegal write is refused and leaves the old registers, and another leaves the written ones
 abbrev pub WritesTo : Option Control → Control → Result (Unit {0}) Illegal → Control → Type 0

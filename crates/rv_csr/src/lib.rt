@@ -8,6 +8,7 @@ mod counting;
 mod csrs;
 mod inputs;
 mod interrupts;
+mod laws;
 mod mode;
 mod reading;
 mod register;
@@ -18,7 +19,9 @@ mod writing;
 pub use access::Illegal;
 pub use csrs::Csrs;
 pub use inputs::Inputs;
+pub use laws::{reads_what_was_written, return_undoes_entry};
 pub use mode::Mode;
+pub use reading::reads_inputs;
 
 #[cfg(test)]
 mod tests;

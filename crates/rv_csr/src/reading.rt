@@ -1,6 +1,9 @@
 //! Reading a control register by its number.
-ghost use Rattle.std.specs.Prelude.{◌≡◌, ok_or};
+ghost use Rattle.std.specs.Prelude.{◌≡◌, false, ok_or};
+ghost use Rattle.rv_csr.specs.Control.{Control};
 ghost use Rattle.rv_csr.specs.Table.{counter_may, read_of, shown};
+ghost use Rattle.rv_csr.specs.declared.inputs.Inputs.{Inputs as SomeInputs};
+ghost use Rattle.rv_csr.specs.declared.mode.Mode.{Mode as SomeMode};
 
 use crate::access::{Illegal, mode_may};
 use crate::bits::{has_bit, high_half, low_half};
@@ -70,5 +73,16 @@ impl Csrs {
         } else {
             Err(Illegal)
         }
+    }
+}
+
+/// Whether what is read at a number can depend on what comes from outside: mip, time and timeh.
+pub fn reads_inputs(at: u16) -> bool
+    ensures { result ≡ false → (c : Control) (mode : SomeMode) (i j : SomeInputs)
+        → read_of c at mode i ≡ read_of c at mode j }
+{
+    match at {
+        0x344 | 0xc01 | 0xc81 => true,
+        _ => false,
     }
 }
