@@ -35,7 +35,7 @@ pub fn load_reserved<B: Bus>(h: &mut Hart, bus: &mut B, rd: u8, at: u32) -> Done
 }
 
 /// Whether the reservation is at the address.
-fn is_reserved(h: &Hart, at: u32) -> bool
+pub fn is_reserved(h: &Hart, at: u32) -> bool
     ensures { result ≡ is_reserved h.now.reservation at }
 {
     match h.reservation {
@@ -76,7 +76,7 @@ pub fn store_conditional<B: Bus>(h: &mut Hart, bus: &mut B, rd: u8, at: u32, val
 }
 
 /// What an atomic row writes back.
-fn combined(op: Op, old: u32, b: u32) -> u32
+pub fn combined(op: Op, old: u32, b: u32) -> u32
     ensures { result ≡ combined op old b }
 {
     match op {

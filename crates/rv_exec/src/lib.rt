@@ -9,6 +9,7 @@ mod done;
 mod hart;
 mod jumps;
 pub mod laws;
+mod plain;
 mod registers;
 mod rows;
 mod system;
@@ -17,6 +18,7 @@ mod traps;
 pub use bus::{Bus, BusError};
 pub use done::Done;
 pub use hart::Hart;
+pub use plain::execute_plain;
 pub use registers::Regs;
 pub use rows::execute;
 

@@ -1,5 +1,6 @@
 //! Control registers, calls, returns and waits.
-ghost use Rattle.std.specs.Prelude.{◌≡◌, ◌≢◌};
+ghost use Rattle.std.specs.Prelude.{◌≡◌, ◌≢◌, ok_or};
+ghost use Rattle.rv_csr.specs.Table.{read_of};
 ghost use Rattle.rv_decode.specs.Fields.{IsWithin};
 ghost use Rattle.rv_exec.specs.Rows.{csr, calls, returns_from_trap, waits, may_wait, given, stepped};
 ghost use Rattle.rv_exec.specs.Kinds.{changed, writes};
@@ -9,7 +10,7 @@ use crate::done::Done;
 use crate::hart::Hart;
 use crate::jumps::{retire, step};
 use crate::traps::{CALL_IN_M, CALL_IN_U, ILLEGAL, trap};
-use rv_csr::{Inputs, Mode};
+use rv_csr::{Illegal, Inputs, Mode, reads_inputs};
 use rv_decode::Ins;
 
 // The number of mstatus, and the place of its field TW.
@@ -46,6 +47,27 @@ fn writes(change: Change, rs1: u8) -> bool
     }
 }
 
+/// Nothing comes from outside.
+const NOTHING: Inputs = Inputs {
+    msip: false,
+    mtip: false,
+    meip: false,
+    time: 0,
+};
+
+/// What is read at a register's number. The bus is asked what comes from outside only where that can
+/// show, since it has to divide for it.
+fn read<B: Bus>(h: &Hart, bus: &B, at: u16) -> Result<u32, Illegal>
+    ensures { result
+        ≡ ok_or (read_of h.now.csrs at h.now.mode (B.answers.inputs bus.now)) record {} }
+{
+    if reads_inputs(at) {
+        h.csrs.read(at, h.mode, &bus.inputs())
+    } else {
+        h.csrs.read(at, h.mode, &NOTHING)
+    }
+}
+
 /// A row on a control register.
 #[inline(never)]
 #[tactic(auto, unfolding(crate::specs::Rows::csr))]
@@ -62,7 +84,7 @@ pub fn exchange<B: Bus>(
     ensures hart { h.new ≡ (csr (B.answers.inputs bus.now) h.old word ins change value).hart }
     ensures memory { result ≢ Done.NoMemory }
 {
-    let Ok(old) = h.csrs.read(ins.csr, h.mode, &bus.inputs()) else {
+    let Ok(old) = read(h, bus, ins.csr) else {
         return trap(ILLEGAL, word);
     };
     if writes(change, ins.rs1)
