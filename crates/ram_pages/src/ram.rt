@@ -1,21 +1,24 @@
 //! The RAM.
 
-ghost use Rattle.std.specs.Prelude.{◌≡◌, ◌+◌, ◌≤◌, ◌<◌, ◌*◌, ◌^◌, ◌↔◌, length, MatchResult, IfOk, IfErr, OnOk, OnErr, IfSome, IfNone, IsTrue};
+ghost use Rattle.std.specs.Prelude.{◌≡◌, ◌+◌, ◌%◌, ◌≤◌, ◌<◌, ◌*◌, ◌^◌, ◌↔◌, length, MatchResult, IfOk, IfErr, OnOk, OnErr, IfSome, IfNone, IsTrue};
 ghost use Rattle.byteorder.specs.Endian.{little_bytes};
+ghost use Rattle.ram_pages.specs.Draft.{with_pages, AllFit};
 ghost use Rattle.ram_pages.specs.Memory.{ram_start, LiesIn, IsSize, number_at, bytes_at, overwritten, written, zeros};
 ghost use Rattle.ram_pages.specs.Refusal.{IsRefusal};
 
 use crate::NoMemory;
+use crate::draft::{Changes, Draft};
+use crate::fresh::{lay, settle, write_with};
 use crate::page::{PAGE, Page};
 use crate::pages::{blank, len_of, shared};
-use crate::reading::{copy_from, number_in, u16_at, u32_at, u64_at};
-use crate::writing::{write_in_page, write_in_pages};
+use crate::reading::{copy_from, number_in, number_in_page, u16_at, u32_at, u64_at};
+use crate::writing::write_in_page;
 use std::alloc::Global;
 use std::marker::Model;
 use std::rc::Rc;
 
 /// The guest's address of the first byte.
-const START: usize = 0x8000_0000;
+pub(crate) const START: usize = 0x8000_0000;
 
 const PAGES_OF_A_MIB: usize = (1 << 20) / PAGE;
 
@@ -96,6 +99,62 @@ impl Ram {
         }
     }
 
+    /// The place in the list of bytes of a range that lies wholly in RAM, at a multiple of its size.
+    #[inline(always)]
+    #[tactic(auto, using(crate::proofs::Aligned::aligned))]
+    fn place_aligned(&self, at: u32, size: u32) -> Option<usize>
+        requires size { IsSize size }
+        requires aligned { at % size ≡ 0 }
+        ensures found { IfSome result (λ place. LiesIn self.now at size × (ram_start + place ≡ at)) }
+        ensures one_page { IfSome result (λ place. place % 4096 + size ≤ 4096) }
+        ensures outside { IfNone result (¬ LiesIn self.now at size) }
+    {
+        let place = at.wrapping_add(0x8000_0000) as usize;
+        if place < len_of(self.pages.as_slice()) {
+            Some(place)
+        } else {
+            None
+        }
+    }
+
+    /// The number of 1, 2 or 4 bytes in a range at a multiple of its size.
+    #[inline(always)]
+    pub fn load_aligned(&self, at: u32, size: u32) -> Option<u32>
+        requires size { IsSize size }
+        requires aligned { at % size ≡ 0 }
+        ensures found { IfSome result
+            (λ x. LiesIn self.now at size × (x ≡ number_at self.now at size)) }
+        ensures fits { IfSome result (λ x. x < 2 ^ (8 * size)) }
+        ensures outside { IfNone result (¬ LiesIn self.now at size) }
+    {
+        match self.place_aligned(at, size) {
+            Some(place) => Some(number_in_page(self.pages.as_slice(), place, size)),
+            None => None,
+        }
+    }
+
+    /// Writes the low 1, 2 or 4 bytes of a number over a range at a multiple of its size.
+    #[inline(always)]
+    pub fn store_aligned(&mut self, at: u32, size: u32, value: u32) -> Result<(), RamError>
+        requires size { IsSize size }
+        requires aligned { at % size ≡ 0 }
+        ensures ok { OnOk result
+            (LiesIn self.old at size × (self.new ≡ written self.old at (little_bytes size value))) }
+        ensures err { IfErr result (λ e. (self.new ≡ self.old) × IsRefusal self.old at size e) }
+    {
+        let place = match self.place_aligned(at, size) {
+            Some(place) => place,
+            None => return Err(RamError::Outside),
+        };
+        let pages = self.pages.as_mut_slice();
+        match size {
+            1 => write_in_page(pages, place, &[(value & 0xff) as u8])?,
+            2 => write_in_page(pages, place, &((value & 0xffff) as u16).to_le_bytes())?,
+            _ => write_in_page(pages, place, &value.to_le_bytes())?,
+        }
+        Ok(())
+    }
+
     /// Writes bytes at a place.
     #[inline(always)]
     fn write(&mut self, place: usize, fresh: &[u8]) -> Result<(), NoMemory>
@@ -114,17 +173,17 @@ impl Ram {
         }
     }
 
-    /// Writes bytes that pass from one page to the next, on a share, so that want of memory leaves
-    /// all as it was.
+    /// Writes bytes that pass from one page to the next, on copies of these pages, so that want of
+    /// memory leaves all as it was.
     #[inline(never)]
     fn write_across(&mut self, place: usize, fresh: &[u8]) -> Result<(), NoMemory>
         requires { place + length fresh.now ≤ length self.old }
         ensures ok { OnOk result (self.new ≡ overwritten self.old place fresh.now) }
         ensures err { OnErr result (self.new ≡ self.old) }
     {
-        let mut pages = shared(&self.pages)?;
-        write_in_pages(pages.as_mut_slice(), place, fresh)?;
-        self.pages = pages;
+        let mut copies = Vec::new(*self.pages.allocator());
+        write_with(self.pages.as_slice(), &mut copies, place, fresh)?;
+        settle(self.pages.as_mut_slice(), copies);
         Ok(())
     }
 
@@ -185,6 +244,23 @@ impl Ram {
     {
         let pages = shared(&self.pages)?;
         Ok(Ram { pages })
+    }
+
+    /// A draft of this RAM, in which nothing is written yet.
+    pub fn draft(&self) -> Draft<'_>
+        ensures before { result.before ≡ self.now }
+        ensures bytes { result.bytes ≡ self.now }
+    {
+        Draft::of(*self.pages.allocator(), self.pages.as_slice())
+    }
+
+    /// Puts the changes of a draft in. It takes no memory.
+    pub fn commit(&mut self, changes: Changes)
+        requires { AllFit changes self.old }
+        ensures { self.new ≡ with_pages changes self.old }
+    {
+        let Changes { fresh } = changes;
+        lay(self.pages.as_mut_slice(), fresh);
     }
 
     /// Whether a range lies wholly in RAM. An empty one does up to RAM's end, the end included.
