@@ -1,0 +1,125 @@
+//! Written sectors in a tree that copies share. Sector 0 stands at the root, sector 2m + 1 at m of
+//! the odd branch, and sector 2m + 2 at m of the even branch, so a sector lies no deeper than its
+//! number has bits, and a tree with one more sector has new nodes on the way to it alone.
+
+ghost use Rattle.std.specs.Prelude.{◌≡◌, ◌==◌, if◌then◌else◌, ℕ, IfOk};
+ghost use Rattle.std.specs.Option.{option_map};
+ghost use Rattle.std.specs.declared.option.Option.TheVariants.{Some};
+ghost use Rattle.overlay_disk.specs.Trees.{at_root, node_entries, entries_of, sector_in};
+
+use crate::NoMemory;
+use std::alloc::Global;
+use std::rc::Rc;
+
+/// The bytes of a sector.
+#[derive(Clone, Copy)]
+pub(crate) struct Sector {
+    pub bytes: [u8; 512],
+}
+
+/// A tree's root with its branches.
+#[derive(Drop)]
+pub(crate) struct Node {
+    pub here: Option<Rc<Sector>>,
+    pub odd: Option<Rc<Node>>,
+    pub even: Option<Rc<Node>>,
+}
+
+/// The same tree, owned twice.
+pub(crate) fn shared(tree: &Option<Rc<Node>>) -> Result<Option<Rc<Node>>, NoMemory>
+    ensures { IfOk result (λ copy. entries_of copy ≡ entries_of tree.now) }
+{
+    match tree {
+        Some(node) => {
+            let copy = node.clone()?;
+            Ok(Some(copy))
+        }
+        None => Ok(None),
+    }
+}
+
+/// The same sector, owned twice.
+fn shared_sector(sector: &Option<Rc<Sector>>) -> Result<Option<Rc<Sector>>, NoMemory>
+    ensures { IfOk result (λ copy. at_root copy ≡ at_root sector.now) }
+{
+    match sector {
+        Some(sector) => {
+            let copy = sector.clone()?;
+            Ok(Some(copy))
+        }
+        None => Ok(None),
+    }
+}
+
+/// The parts of a tree, owned twice.
+fn parts(tree: &Option<Rc<Node>>) -> Result<Node, NoMemory>
+    ensures { IfOk result (λ node. node_entries node ≡ entries_of tree.now) }
+{
+    match tree {
+        Some(node) => {
+            let node: &Node = node;
+            let here = shared_sector(&node.here)?;
+            let odd = shared(&node.odd)?;
+            let even = shared(&node.even)?;
+            Ok(Node { here, odd, even })
+        }
+        None => Ok(Node {
+            here: None,
+            odd: None,
+            even: None,
+        }),
+    }
+}
+
+/// The tree of a root with its branches.
+fn rooted(alloc: Global, node: Node) -> Result<Option<Rc<Node>>, NoMemory>
+    ensures { IfOk result (λ tree. entries_of tree ≡ node_entries node) }
+{
+    let tree = Rc::new(alloc, node)?;
+    Ok(Some(tree))
+}
+
+/// A tree with a sector in place of what stood there. The one that is passed stays as it is.
+pub(crate) fn with(
+    alloc: Global,
+    tree: &Option<Rc<Node>>,
+    sector: u64,
+    fresh: Rc<Sector>,
+) -> Result<Option<Rc<Node>>, NoMemory>
+    ensures { IfOk result (λ after. (k : ℕ) → sector_in after k
+        ≡ (if k == sector then Some fresh.value.bytes else sector_in tree.now k)) }
+{
+    let Node { here, odd, even } = parts(tree)?;
+    if sector == 0 {
+        let here = Some(fresh);
+        rooted(alloc, Node { here, odd, even })
+    } else if sector % 2 == 1 {
+        let odd = with(alloc, &odd, (sector - 1) / 2, fresh)?;
+        rooted(alloc, Node { here, odd, even })
+    } else {
+        let even = with(alloc, &even, (sector - 1) / 2, fresh)?;
+        rooted(alloc, Node { here, odd, even })
+    }
+}
+
+/// The sector of a number, if it stands in a tree.
+pub(crate) fn find(tree: &Option<Rc<Node>>, sector: u64) -> Option<&Sector>
+    ensures { option_map (λ s. s.now.bytes) result ≡ sector_in tree.now sector }
+{
+    match tree {
+        Some(node) => {
+            let node: &Node = node;
+            if sector == 0 {
+                match &node.here {
+                    Some(found) => Some(found),
+                    None => None,
+                }
+            } else if sector % 2 == 1 {
+                find(&node.odd, (sector - 1) / 2)
+            } else {
+                find(&node.even, (sector - 1) / 2)
+            }
+        }
+        None => None,
+    }
+}
