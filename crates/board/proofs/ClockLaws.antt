@@ -8,22 +8,23 @@ use Rattle.rv_exec.specs.declared.done.Done.TheVariants.{Retired, Trap, NeedCloc
 use Rattle.rv_exec.specs.declared.hart.Hart.{Hart}
 use Rattle.event_log.specs.declared.event.Event.{Event}
 use Rattle.event_log.specs.declared.event.Event.TheVariants as event
-use Rattle.board.specs.declared.devices.Devices.{Devices}
+use Rattle.system_bus.specs.declared.devices.Devices.{Devices}
 use Rattle.board.specs.declared.control.Window.{Window}
 use Rattle.board.specs.declared.control.Window.TheVariants as window
 use Rattle.board.specs.declared.due.Due.{Due}
 use Rattle.board.specs.declared.due.Due.TheVariants as due_is
-use Rattle.board.specs.Time.{Time, nanoseconds, later}
-use Rattle.board.specs.Access.{inputs}
-use Rattle.board.specs.Lines.{levels}
+use Rattle.system_bus.specs.Time.{Time, nanoseconds, later}
+use Rattle.system_bus.specs.Access.{inputs}
+use Rattle.system_bus.specs.Lines.{levels}
 use Rattle.board.specs.State.{State}
-use Rattle.board.specs.Close.{wakes, deadline, awake, skipped, warped, rests, close_window, close}
+use Rattle.board.specs.Close.{wakes, deadline, awake, warped, rests, close_window, close}
+use Rattle.system_bus.specs.Time.{skipped}
 use Rattle.board.specs.Turn.{attempt, settle, turn_closed, turn}
 use Rattle.board.specs.Due.{due, interrupt_of}
 use Rattle.board.specs.Accept.{takes, takes_interrupt, in_window, takes_input, with_levels, taken, accept}
 use Rattle.board.specs.Runs.{is_run, after, ran, step, then_run, run, turns_of, turns, or_here, state_at}
 use Rattle.board.specs.Laws.{NoLater, IsLaterBy, IdlesUntil, ResumesAt}
-use Rattle.board.proofs.Levels.{levels_time}
+use Rattle.system_bus.proofs.Levels.{levels_time}
 use Rattle.board.proofs.TimeHeld.{attempt_time}
 use Rattle.board.proofs.Counting.{close-keeps, after-counts}
 

@@ -12,26 +12,26 @@ use Rattle.rv_exec.specs.declared.hart.Hart.{Hart}
 use Rattle.rv_exec.specs.Rows.{is_need_clock}
 use Rattle.clint_rtc.specs.Rtc.{Latch}
 use Rattle.clint_rtc.specs.Rtc as host_clock
-use Rattle.board.specs.declared.devices.Devices.{Devices}
-use Rattle.board.specs.declared.memory_map.Region.{Region}
-use Rattle.board.specs.declared.memory_map.Region.TheVariants as region_is
-use Rattle.board.specs.declared.memory_map.Register.{Register}
+use Rattle.system_bus.specs.declared.devices.Devices.{Devices}
+use Rattle.system_bus.specs.declared.memory_map.Region.{Region}
+use Rattle.system_bus.specs.declared.memory_map.Region.TheVariants as region_is
+use Rattle.system_bus.specs.declared.memory_map.Register.{Register}
 use Rattle.board.specs.declared.control.Control.{Control}
 use Rattle.board.specs.declared.control.Window.{Window}
 use Rattle.board.specs.declared.control.Window.TheVariants as window
 use Rattle.board.specs.declared.due.Due.{Due}
 use Rattle.board.specs.declared.due.Due.TheVariants as due_is
-use Rattle.board.specs.Time.{later}
-use Rattle.board.specs.Memory.{ram_load}
-use Rattle.board.specs.MemoryMap.{register_at}
-use Rattle.board.specs.Access.{answers, or_device, clock_word, region_read, register_read, load}
+use Rattle.system_bus.specs.Time.{later}
+use Rattle.system_bus.specs.Memory.{ram_load}
+use Rattle.system_bus.specs.MemoryMap.{register_at}
+use Rattle.system_bus.specs.Access.{answers, or_device, clock_word, region_read, register_read, load}
 use Rattle.board.specs.State.{State}
 use Rattle.board.specs.Close.{wakes, deadline, rests, close_window, close, Keeps}
 use Rattle.board.specs.Turn.{run_word, fetched, attempt, settle, turn_closed, turn}
 use Rattle.board.specs.Due.{is_idle_window, ended_by, has_in_flight, due_by, interrupt_of, needs_clock, due_closed, due}
 use Rattle.board.specs.Runs.{is_run, after, ran}
 use Rattle.board.specs.Answers.{Counts}
-use Rattle.board.proofs.Levels.{levels_time}
+use Rattle.system_bus.proofs.Levels.{levels_time}
 use Rattle.board.proofs.TimeHeld.{attempt_time}
 use Rattle.board.proofs.Unrefused.{is_refusal, is_memory_error, Fed, meaning-fed}
 

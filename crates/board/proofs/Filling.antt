@@ -5,7 +5,7 @@ use Rattle.std.proofs.Math.ListN.{drop_of_length-le}
 use Rattle.std.specs.List.{AllByRecursion}
 use Rattle.ram_pages.specs.Memory.{ram_start, written, LiesIn}
 use Rattle.elf_load.specs.declared.pieces.Piece.{Piece}
-use Rattle.board.specs.Memory.{filled}
+use Rattle.board.specs.Firmware.{filled}
 
 -- a write keeps the size
 pub written_length : (ram : List ℕ) (at : ℕ) (fresh : List ℕ) → LiesIn ram at (length fresh)

@@ -8,13 +8,13 @@ use Rattle.rv_exec.specs.declared.hart.Hart.{Hart}
 use Rattle.rv_exec.specs.Rows.{load_of, is_need_clock, is_clock_error, needs_clock as load_needs_clock}
 use Rattle.rv_exec.proofs.Clock.{meaning-clock}
 use Rattle.clint_rtc.specs.Rtc.{Latch, take, read}
-use Rattle.board.specs.declared.devices.Devices.{Devices}
-use Rattle.board.specs.declared.memory_map.Region.{Region}
-use Rattle.board.specs.declared.memory_map.Region.TheVariants as region_is
-use Rattle.board.specs.declared.memory_map.Register.{Register}
-use Rattle.board.specs.Memory.{ram_load}
-use Rattle.board.specs.MemoryMap.{register_at}
-use Rattle.board.specs.Access.{answers, clock_word, region_read, register_read, or_device, load}
+use Rattle.system_bus.specs.declared.devices.Devices.{Devices}
+use Rattle.system_bus.specs.declared.memory_map.Region.{Region}
+use Rattle.system_bus.specs.declared.memory_map.Region.TheVariants as region_is
+use Rattle.system_bus.specs.declared.memory_map.Register.{Register}
+use Rattle.system_bus.specs.Memory.{ram_load}
+use Rattle.system_bus.specs.MemoryMap.{register_at}
+use Rattle.system_bus.specs.Access.{answers, clock_word, region_read, register_read, or_device, load}
 use Rattle.board.specs.State.{State}
 use Rattle.board.specs.Turn.{run_word, fetched, attempt}
 use Rattle.board.specs.Due.{needs_clock}

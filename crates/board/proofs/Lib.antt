@@ -1,6 +1,4 @@
-pub mod Lying
 pub mod Filling
-pub mod Levels
 pub mod DueFacts
 pub mod Clocking
 pub mod TimeHeld
@@ -12,3 +10,7 @@ pub mod Unrefused
 pub mod Counting
 pub mod ClockLaws
 pub mod InHand
+pub mod Plain
+pub mod Sprints
+pub mod Quiet
+pub mod Settled

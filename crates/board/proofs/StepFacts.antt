@@ -1,21 +1,18 @@
 -- A step of a state whose window is closed, from what its attempt came to.
-use Rattle.std.proofs.Common.{◌≡◌, ◌≢◌, Bool, true, false, refl, sym, ap, ◌∙◌}
+use Rattle.std.proofs.Common.{◌≡◌, ◌≢◌, true, false, refl, sym, ap, ◌∙◌}
 use Rattle.std.specs.Prelude.{is_some}
 use Rattle.rv_exec.specs.declared.done.Done.{Done}
 use Rattle.rv_exec.specs.declared.done.Done.TheVariants.{Retired, Trap, NeedClock, NoMemory}
 use Rattle.rv_exec.specs.declared.hart.Hart.{Hart}
 use Rattle.rv_exec.specs.Rows.{Outcome, Reaches, is_need_clock}
-use Rattle.board.specs.declared.devices.Devices.{Devices}
+use Rattle.system_bus.specs.declared.devices.Devices.{Devices}
 use Rattle.board.specs.declared.due.Due.TheVariants as due_is
 use Rattle.board.specs.State.{State}
 use Rattle.board.specs.Turn.{attempt, settle, settled, turn_closed}
-use Rattle.board.specs.Due.{due_by, due_closed, interrupt_of, needs_clock}
+use Rattle.board.specs.Due.{due_closed, interrupt_of, needs_clock}
 use Rattle.board.specs.Runs.{is_run}
+use Rattle.board.specs.Sprint.{is_clear}
 use Rattle.board.proofs.DueFacts.{needing, is_run_run}
-
--- a turn is due but for the clock
-abbrev pub clear : State → Bool
-clear g = is_run (due_by g.control g.devices.time.count g.devices.finisher false (is_some (interrupt_of g)) false)
 
 pub stops : (g : State) → (attempt g.hart g.devices).done ≡ NeedClock → is_run (due_closed g) ≡ false
 unfolding due_closed needs_clock
@@ -27,7 +24,7 @@ no-clock (Trap cause value) n = refl
 no-clock NeedClock n = absurd (n refl)
 no-clock NoMemory n = refl
 
-pub turns : (g : State) (done : Done) → done ≢ NeedClock → (attempt g.hart g.devices).done ≡ done → clear g ≡ true → due_closed g ≡ due_is.Run
+pub turns : (g : State) (done : Done) → done ≢ NeedClock → (attempt g.hart g.devices).done ≡ done → is_clear g ≡ true → due_closed g ≡ due_is.Run
 unfolding due_closed needs_clock
 turns g done n e c = rw e (rw (no-clock done n) (is_run_run _ c))
 

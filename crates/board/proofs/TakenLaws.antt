@@ -10,21 +10,21 @@ use Rattle.rv_exec.specs.Rows.{is_need_clock}
 use Rattle.rv_exec.proofs.Natural.{Commutes, outcome_map, meaning-natural}
 use Rattle.event_log.specs.declared.event.Event.{Event}
 use Rattle.event_log.specs.declared.event.Event.TheVariants as event
-use Rattle.board.specs.declared.memory_map.Region.{Region}
-use Rattle.board.specs.declared.memory_map.Region.TheVariants as region_is
-use Rattle.board.specs.declared.memory_map.Register.{Register}
-use Rattle.board.specs.declared.devices.Devices.{Devices}
+use Rattle.system_bus.specs.declared.memory_map.Region.{Region}
+use Rattle.system_bus.specs.declared.memory_map.Region.TheVariants as region_is
+use Rattle.system_bus.specs.declared.memory_map.Register.{Register}
+use Rattle.system_bus.specs.declared.devices.Devices.{Devices}
 use Rattle.board.specs.declared.due.Due.{Due}
 use Rattle.board.specs.declared.due.Due.TheVariants as due_is
 use Rattle.board.specs.declared.control.Window.{Window}
 use Rattle.board.specs.declared.control.Window.TheVariants as window
 use Rattle.uart16550.specs.Line.{Line, cause, dlab}
 use Rattle.uart16550.specs.Map as uart_map
-use Rattle.board.specs.Lines.{levels}
-use Rattle.board.specs.Memory.{lies_in, ram_load}
-use Rattle.board.specs.Time.{later}
-use Rattle.board.specs.MemoryMap.{register_at}
-use Rattle.board.specs.Access.{answers, or_device, load, loaded, can_store, stored, region_read, region_after_read, region_written, register_read, register_after_read, register_written, inputs}
+use Rattle.system_bus.specs.Lines.{levels}
+use Rattle.system_bus.specs.Memory.{lies_in, ram_load}
+use Rattle.system_bus.specs.Time.{later}
+use Rattle.system_bus.specs.MemoryMap.{register_at}
+use Rattle.system_bus.specs.Access.{answers, or_device, load, loaded, can_store, stored, region_read, region_after_read, region_written, register_read, register_after_read, register_written, inputs}
 use Rattle.board.specs.State.{State}
 use Rattle.board.specs.Close.{wakes, deadline, awake, rests, close_window, close}
 use Rattle.board.specs.Turn.{run_word, fetched, attempt, settle, settled, turn_closed, turn}

@@ -5,14 +5,14 @@ use Rattle.rv_decode.specs.declared.ins.Ins.{Ins}
 use Rattle.rv_decode.specs.Fields.{decoded}
 use Rattle.rv_exec.specs.declared.hart.Hart.{Hart}
 use Rattle.rv_exec.proofs.Holding.{Holds, meaning-held}
-use Rattle.board.specs.declared.devices.Devices.{Devices}
-use Rattle.board.specs.declared.memory_map.Region.{Region}
-use Rattle.board.specs.declared.memory_map.Region.TheVariants as region_is
-use Rattle.board.specs.declared.memory_map.Register.{Register}
-use Rattle.board.specs.Time.{Time}
-use Rattle.board.specs.Memory.{lies_in, ram_load}
-use Rattle.board.specs.MemoryMap.{register_at}
-use Rattle.board.specs.Access.{answers, loaded, stored, region_after_read, region_written, register_after_read, register_written}
+use Rattle.system_bus.specs.declared.devices.Devices.{Devices}
+use Rattle.system_bus.specs.declared.memory_map.Region.{Region}
+use Rattle.system_bus.specs.declared.memory_map.Region.TheVariants as region_is
+use Rattle.system_bus.specs.declared.memory_map.Register.{Register}
+use Rattle.system_bus.specs.Time.{Time}
+use Rattle.system_bus.specs.Memory.{lies_in, ram_load}
+use Rattle.system_bus.specs.MemoryMap.{register_at}
+use Rattle.system_bus.specs.Access.{answers, loaded, stored, region_after_read, region_written, register_after_read, register_written}
 use Rattle.board.specs.Turn.{attempt, fetched, run_word}
 
 abbrev pub time_of : Devices → Time

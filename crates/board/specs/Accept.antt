@@ -6,7 +6,7 @@ use Rattle.rv_exec.specs.declared.hart.Hart.{Hart}
 use Rattle.uart16550.specs.Line as uart
 use Rattle.event_log.specs.declared.event.Event.{Event}
 use Rattle.event_log.specs.declared.event.Event.TheVariants as event
-use Rattle.board.specs.Lines.{levels}
+use Rattle.system_bus.specs.Lines.{levels}
 use Rattle.board.specs.State.{State}
 use Rattle.board.specs.Close.{close}
 use Rattle.board.specs.Due.{due, interrupt_of}

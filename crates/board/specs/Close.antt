@@ -1,13 +1,13 @@
 -- Closing a window (this machine's own): an idle hart goes on, or the time to its deadline passes.
-use Rattle.std.specs.Prelude.{ℕ, ◌*◌, ◌-◌, ◌^◌, ◌≡◌, Bool, true, false, Option, Some, None, if◌then◌else◌}
+use Rattle.std.specs.Prelude.{ℕ, ◌≡◌, Bool, true, false, Option, Some, None, if◌then◌else◌}
 use Rattle.rv_csr.specs.Control.{has_bit}
 use Rattle.rv_csr.specs.Traps.{is_wanted}
 use Rattle.rv_exec.specs.declared.hart.Hart.{Hart}
 use Rattle.clint_rtc.specs.Clint as clint
-use Rattle.board.specs.Time.{Time, nanoseconds}
-use Rattle.board.specs.Access.{inputs}
+use Rattle.system_bus.specs.Time.{Time, nanoseconds, skipped}
+use Rattle.system_bus.specs.Access.{inputs}
 use Rattle.board.specs.State.{State}
-use Rattle.board.specs.declared.devices.Devices.{Devices}
+use Rattle.system_bus.specs.declared.devices.Devices.{Devices}
 use Rattle.board.specs.declared.control.Control.{Control}
 use Rattle.board.specs.declared.control.Window.{Window}
 use Rattle.board.specs.declared.control.Window.TheVariants.{Shut, Slice, Idle}
@@ -27,10 +27,6 @@ shut g = record g { control = record g.control { window = Shut } }
 -- the window is shut, and the hart goes on
 abbrev pub awake : State → State
 awake g = record g { control = record g.control { window = Shut; idle = false } }
-
--- the clock whose turns are the same and which shows this nanosecond
-abbrev pub skipped : Time → ℕ → Time
-skipped t at = record t { warp = at - t.count * 2 ^ t.shift }
 
 abbrev pub warped : State → ℕ → State
 warped g at = record g { devices = record g.devices { time = skipped g.devices.time at } }

@@ -2,11 +2,11 @@
 use Rattle.std.specs.Prelude.{ℕ, ◌==◌, Bool, true, false, Option, Some, None, is_some, if◌then◌else◌}
 use Rattle.rv_csr.specs.Traps as interrupts
 use Rattle.rv_exec.specs.Rows.{is_need_clock}
-use Rattle.board.specs.Access.{inputs}
+use Rattle.system_bus.specs.Access.{inputs}
 use Rattle.board.specs.State.{State}
 use Rattle.board.specs.Close.{close}
 use Rattle.board.specs.Turn.{attempt}
-use Rattle.board.specs.declared.devices.Devices.{Devices}
+use Rattle.system_bus.specs.declared.devices.Devices.{Devices}
 use Rattle.board.specs.declared.control.Control.{Control}
 use Rattle.board.specs.declared.control.Window.{Window}
 use Rattle.board.specs.declared.control.Window.TheVariants.{Idle}

@@ -1,6 +1,6 @@
 -- What laws of whole runs say.
 use Rattle.std.specs.Prelude.{ℕ, ◌≡◌, ◌≤◌, ◌+◌, Bool, true, false, Some}
-use Rattle.board.specs.Time.{nanoseconds}
+use Rattle.system_bus.specs.Time.{nanoseconds}
 use Rattle.board.specs.State.{State}
 use Rattle.board.specs.Close.{wakes, deadline}
 use Rattle.board.specs.declared.control.Window.TheVariants.{Idle}

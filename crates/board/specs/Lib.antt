@@ -1,8 +1,4 @@
-pub mod Time
-pub mod MemoryMap
-pub mod Memory
-pub mod Access
-pub mod Lines
+pub mod Firmware
 pub mod State
 pub mod Close
 pub mod Turn
@@ -13,3 +9,4 @@ pub mod Reset
 pub mod Taken
 pub mod Answers
 pub mod Laws
+pub mod Sprint

@@ -8,7 +8,7 @@ use Rattle.clint_rtc.specs.Rtc.{nothing_latched}
 use Rattle.plic_gate.specs.Gateway as plic
 use Rattle.uart16550.specs.Line as uart
 use Rattle.elf_load.specs.declared.pieces.Loaded.{Loaded}
-use Rattle.board.specs.Memory.{filled}
+use Rattle.board.specs.Firmware.{filled}
 use Rattle.board.specs.State.{State}
 use Rattle.board.specs.declared.config.Config.{Config}
 use Rattle.board.specs.declared.control.Window.TheVariants as window

@@ -2,7 +2,7 @@
 use Rattle.std.specs.Prelude.{List, ℕ, ◌++◌, [], Option, Some, None}
 use Rattle.uart16550.specs.Line.{Line}
 use Rattle.board.specs.State.{State}
-use Rattle.board.specs.declared.devices.Devices.{Devices}
+use Rattle.system_bus.specs.declared.devices.Devices.{Devices}
 
 abbrev pub line_with : List ℕ → Line → Line
 line_with front l = record l { out = front ++ l.out }

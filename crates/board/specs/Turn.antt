@@ -8,14 +8,14 @@ use Rattle.rv_csr.specs.Traps.{trapped, base}
 use Rattle.rv_exec.specs.declared.done.Done.{Done}
 use Rattle.rv_exec.specs.declared.done.Done.TheVariants.{Retired, Trap, NeedClock, NoMemory}
 use Rattle.rv_exec.specs.declared.hart.Hart.{Hart}
-use Rattle.rv_exec.specs.Rows.{Outcome, meaning, traps, beside}
-use Rattle.board.specs.Time.{later}
-use Rattle.board.specs.Memory.{ram_load}
-use Rattle.board.specs.Access.{answers}
-use Rattle.board.specs.Lines.{levels}
+use Rattle.rv_exec.specs.Rows.{Outcome, meaning, traps, beside, is_store}
+use Rattle.system_bus.specs.Time.{later}
+use Rattle.system_bus.specs.Memory.{ram_load}
+use Rattle.system_bus.specs.Access.{answers}
+use Rattle.system_bus.specs.Lines.{levels}
 use Rattle.board.specs.State.{State}
 use Rattle.board.specs.Close.{close}
-use Rattle.board.specs.declared.devices.Devices.{Devices}
+use Rattle.system_bus.specs.declared.devices.Devices.{Devices}
 use Rattle.board.specs.declared.control.Control.{Control}
 
 -- a word that means no instruction is illegal, cause 2 [Privileged ISA, mcause]
@@ -73,3 +73,20 @@ turn_closed g = settled g (attempt g.hart g.devices)
 -- a turn closes an open window first
 unfoldable pub turn : State → State
 turn g = turn_closed (close g)
+
+-- a word that is a store, SC.W or an AMO
+abbrev pub stores : Option Ins → Bool
+stores None = false
+stores (Some ins) = is_store ins.op
+
+abbrev pub stores_where_fetched : Option ℕ → Bool
+stores_where_fetched None = false
+stores_where_fetched (Some word) = stores (decoded word)
+
+-- the instruction at pc may want memory, since it stores
+unfoldable pub wants_memory : Hart → Devices → Bool
+wants_memory h d = stores_where_fetched (ram_load d.ram h.pc 4)
+
+-- the same of the next turn
+unfoldable pub turn_wants_memory : State → Bool
+turn_wants_memory g = wants_memory (close g).hart (close g).devices

@@ -2,15 +2,14 @@
 
 ghost use Rattle.std.specs.Prelude.{◌≡◌, ◌≤◌, false, IfSome};
 ghost use Rattle.rv_csr.specs.Control.{has_bit};
-ghost use Rattle.board.specs.Time.{nanoseconds, last_deadline};
+ghost use Rattle.system_bus.specs.Time.{nanoseconds, last_deadline};
 ghost use Rattle.board.specs.Close.{wakes as wakes_of, deadline as deadline_of, close, Keeps};
-ghost use Rattle.board.specs.Close.{skipped as skipped_to};
+ghost use Rattle.system_bus.specs.Time.{skipped as skipped_to};
 
 use crate::control::{Control, Window};
-use crate::devices::Devices;
-use crate::time::Time;
 use rv_csr::Mode;
 use rv_exec::{Bus, Hart};
+use system_bus::{Devices, Time};
 
 /// The number of the control register `mie`.
 const MIE: u16 = 0x304;

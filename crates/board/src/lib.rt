@@ -7,30 +7,24 @@
 mod accepting;
 mod closing;
 mod config;
-mod console;
 mod control;
 mod deciding;
-mod devices;
 mod due;
+mod firmware;
 pub mod laws;
 mod machine;
-mod memory;
-mod memory_map;
 mod running;
+mod sprinting;
 mod steps;
-mod time;
 mod turning;
 
 pub use accepting::AcceptError;
 pub use config::Config;
-pub use console::Console;
 pub use control::{Control, Ending, Window};
-pub use devices::Devices;
 pub use due::Due;
 pub use machine::Machine;
 pub use running::Turned;
 pub use steps::Steps;
-pub use time::Time;
 
 #[cfg(test)]
 mod tests;

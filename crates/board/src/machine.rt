@@ -11,13 +11,10 @@ ghost use Rattle.board.specs.Accept.{is_open};
 
 use crate::closing::{closed, deadline};
 use crate::config::Config;
-use crate::console::Console;
 use crate::control::{Control, Ending, Window};
 use crate::deciding::{due_by, interrupt_at, needs_clock};
-use crate::devices::Devices;
 use crate::due::Due;
-use crate::memory::{ram_load, ram_with};
-use crate::time::Time;
+use crate::firmware::ram_with;
 use clint_rtc::{Clint, Finisher, Rtc};
 use elf_load::Loaded;
 use outside::NoMemory;
@@ -27,6 +24,7 @@ use rv_decode::DecodeCache;
 use rv_exec::{Hart, Regs};
 use std::alloc::Global;
 use std::marker::Model;
+use system_bus::{Console, Devices, Memory, Time};
 
 /// The machine, which contracts see as its state.
 #[derive(Drop)]
@@ -58,7 +56,6 @@ impl Machine {
         ensures { IfOk result (λ m. m ≡ reset_of config.now firmware.now) }
     {
         let ram = ram_with(alloc, config.ram_mib, firmware.pieces.as_slice())?;
-        let cache = DecodeCache::new(alloc)?;
         Ok(Machine {
             hart: Hart {
                 pc: firmware.entry,
@@ -68,7 +65,7 @@ impl Machine {
                 reservation: None,
             },
             devices: Devices {
-                ram,
+                ram: Memory { ram },
                 uart: Console::new(alloc),
                 clint: Clint::new(),
                 plic: Plic::new(),
@@ -85,7 +82,7 @@ impl Machine {
                 slice: config.slice,
                 budget: config.budget,
             },
-            cache,
+            cache: DecodeCache::new(alloc),
         })
     }
 
@@ -154,7 +151,7 @@ impl Machine {
     pub fn peek(&self, at: u32) -> Option<u8>
         ensures { result ≡ peeked self.now.devices.ram at }
     {
-        match ram_load(&self.devices.ram, at, 1) {
+        match self.devices.ram.read(at, 1) {
             Some(byte) => Some(byte as u8),
             None => None,
         }
@@ -183,7 +180,7 @@ impl Machine {
             hart: self.hart,
             devices: self.devices.share()?,
             control: self.control,
-            cache: self.cache.share()?,
+            cache: self.cache.fresh(),
         })
     }
 }

@@ -1,15 +1,16 @@
 //! Turns, as long as one is due.
 
-ghost use Rattle.std.specs.Prelude.{◌≡◌};
+ghost use Rattle.std.specs.Prelude.{◌≡◌, true};
 ghost use Rattle.board.specs.Answers.{Advances, RunsTo, StepsTo, Turns};
 ghost use Rattle.board.specs.Due.{due as due_of};
+ghost use Rattle.board.specs.Sprint.{IsFree};
 
 use crate::closing::closed;
 use crate::control::Window;
 use crate::due::Due;
 use crate::machine::Machine;
 use crate::steps::Steps;
-use crate::turning::{Stepped, step};
+use crate::turning::{Stepped, make, step};
 use outside::NoMemory;
 use std::alloc::AllocError;
 use std::sync::ledger::Ledger;
@@ -24,7 +25,7 @@ pub enum Turned {
 impl Machine {
     /// A turn where one is due. It closes an open window first.
     #[inline(always)]
-    #[tactic(auto, unfolding(crate::specs::Due::due, crate::specs::Turn::turn, crate::specs::Close::close))]
+    #[tactic(auto, unfolding(crate::specs::Due::due, crate::specs::Turn::turn, crate::specs::Turn::turn_wants_memory, crate::specs::Close::close))]
     pub(crate) fn advance(&mut self) -> Stepped
         ensures { Advances self.old result self.new }
     {
@@ -36,7 +37,7 @@ impl Machine {
 
     /// The same, where a window may be open.
     #[inline(never)]
-    #[tactic(auto, unfolding(crate::specs::Due::due, crate::specs::Turn::turn))]
+    #[tactic(auto, unfolding(crate::specs::Due::due, crate::specs::Turn::turn, crate::specs::Turn::turn_wants_memory))]
     fn advance_closing(&mut self) -> Stepped
         ensures { Advances self.old result self.new }
     {
@@ -67,6 +68,34 @@ impl Machine {
         )
     }
 
+    /// A turn that is known to be due, unless it needs the host's clock.
+    #[inline(always)]
+    #[tactic(auto, unfolding(crate::specs::Due::due, crate::specs::Turn::turn, crate::specs::Turn::turn_wants_memory, crate::specs::Close::close))]
+    fn make_free(&mut self) -> Stepped
+        requires { IsFree self.old }
+        ensures { Advances self.old result self.new }
+    {
+        make(
+            &mut self.hart,
+            &mut self.devices,
+            &mut self.control,
+            &mut self.cache,
+        )
+    }
+
+    /// A turn where one is due. `free` tells that one is known to be, unless it needs the clock.
+    #[inline(always)]
+    fn advance_from(&mut self, free: bool) -> Stepped
+        requires { free ≡ true → IsFree self.old }
+        ensures { Advances self.old result self.new }
+    {
+        if free {
+            self.make_free()
+        } else {
+            self.advance()
+        }
+    }
+
     /// One turn, which closes an open window first. After `NoMemory` all is as before.
     #[tactic(auto, using(crate::proofs::DueFacts::run_is_run))]
     pub fn turn<L: Ledger>(&mut self, steps: &mut Steps<L>) -> Turned
@@ -90,11 +119,15 @@ impl Machine {
         ensures { RunsTo self.old limit result self.new steps.old steps.new }
     {
         let mut made = 0;
+        let mut free = false;
         while made < limit {
-            match self.advance() {
+            match self.advance_from(free) {
                 Stepped::Turned => {
                     steps.tick();
                     made += 1;
+                    let sprint = self.sprint(limit - made, steps);
+                    made += sprint.made;
+                    free = sprint.free;
                 }
                 Stepped::Stopped => return Ok(made),
                 Stepped::NoMemory => return Err(AllocError),

@@ -1,17 +1,17 @@
 //! One turn.
 
-ghost use Rattle.std.specs.Prelude.{◌≡◌, ◌≢◌, ◌<◌, ◌^◌};
+ghost use Rattle.std.specs.Prelude.{◌≡◌, ◌≢◌, ◌<◌, ◌^◌, true};
 ghost use Rattle.rv_exec.specs.Rows.{Reaches, is_need_clock};
-ghost use Rattle.board.specs.Turn.{attempt as attempt_of, entered, settle as settle_of};
+ghost use Rattle.board.specs.Turn.{attempt as attempt_of, entered, settle as settle_of, wants_memory};
 ghost use Rattle.board.specs.Answers.{Counts, Refused, StepsTo};
+ghost use Rattle.board.specs.Sprint.{is_clear as is_clear_of};
 
 use crate::control::Control;
 use crate::deciding::{interrupt_at, is_clear};
-use crate::devices::Devices;
-use crate::memory::ram_load;
 use rv_csr::Mode;
 use rv_decode::DecodeCache;
 use rv_exec::{Done, Hart, execute};
+use system_bus::Devices;
 
 /// The cause of a fetch outside RAM.
 const INSTRUCTION_ACCESS_FAULT: u32 = 1;
@@ -29,6 +29,7 @@ pub(crate) fn attempt(hart: &mut Hart, devices: &mut Devices, cache: &mut Decode
         Refused (attempt_of hart.old devices.old) hart.old devices.old hart.new devices.new }
     ensures clock { result ≡ Done.NeedClock →
         (hart.new ≡ hart.old) × (devices.new ≡ devices.old) }
+    ensures wants { result ≡ Done.NoMemory → wants_memory hart.old devices.old ≡ true }
     ensures time { devices.new.time ≡ devices.old.time }
 {
     fetch(hart, devices, cache)
@@ -36,7 +37,7 @@ pub(crate) fn attempt(hart: &mut Hart, devices: &mut Devices, cache: &mut Decode
 
 /// The fetch, the decoding and the execution of the word at pc.
 #[inline(always)]
-#[tactic(auto, unfolding(crate::specs::Turn::attempt))]
+#[tactic(auto, unfolding(crate::specs::Turn::attempt, crate::specs::Turn::wants_memory))]
 fn fetch(hart: &mut Hart, devices: &mut Devices, cache: &mut DecodeCache) -> Done
     ensures reached { result ≢ Done.NoMemory →
         Reaches (attempt_of hart.old devices.old) result hart.new devices.new }
@@ -44,8 +45,9 @@ fn fetch(hart: &mut Hart, devices: &mut Devices, cache: &mut DecodeCache) -> Don
         Refused (attempt_of hart.old devices.old) hart.old devices.old hart.new devices.new }
     ensures clock { result ≡ Done.NeedClock →
         (hart.new ≡ hart.old) × (devices.new ≡ devices.old) }
+    ensures wants { result ≡ Done.NoMemory → wants_memory hart.old devices.old ≡ true }
 {
-    let Some(word) = ram_load(&devices.ram, hart.pc, 4) else {
+    let Some(word) = devices.ram.fetch(hart.pc) else {
         return Done::Trap {
             cause: INSTRUCTION_ACCESS_FAULT,
             value: hart.pc,
@@ -71,10 +73,9 @@ pub(crate) enum Stepped {
     NoMemory,
 }
 
-/// A turn where one is due, of a state whose window is closed. The word is decoded once: whether
-/// the turn needs the clock shows in the attempt.
+/// A turn where one is due, of a state whose window is closed.
 #[inline(always)]
-#[tactic(auto, unfolding(crate::specs::Due::due_closed, crate::specs::Due::needs_clock, crate::specs::Turn::turn_closed), using(crate::proofs::DueFacts::deciding, crate::proofs::Levels::levels_time))]
+#[tactic(auto, unfolding(crate::specs::Due::due_closed, crate::specs::Due::needs_clock), using(crate::proofs::DueFacts::deciding))]
 pub(crate) fn step(
     hart: &mut Hart,
     devices: &mut Devices,
@@ -96,6 +97,27 @@ pub(crate) fn step(
     ) {
         return Stepped::Stopped;
     }
+    make(hart, devices, control, cache)
+}
+
+/// A turn that is due, unless it needs the host's clock. The word is decoded once: whether it does
+/// shows in the attempt.
+#[inline(always)]
+#[tactic(auto, unfolding(crate::specs::Due::due_closed, crate::specs::Due::needs_clock, crate::specs::Turn::turn_closed), using(crate::proofs::DueFacts::deciding, system_bus::proofs::Levels::levels_time))]
+pub(crate) fn make(
+    hart: &mut Hart,
+    devices: &mut Devices,
+    control: &mut Control,
+    cache: &mut DecodeCache,
+) -> Stepped
+    requires counts { Counts control.old devices.old.time }
+    requires clear { is_clear_of
+        (record { hart = hart.old; devices = devices.old; control = control.old }) ≡ true }
+    ensures step { StepsTo
+        (record { hart = hart.old; devices = devices.old; control = control.old }) result
+        (record { hart = hart.new; devices = devices.new; control = control.new }) }
+    ensures counts { Counts control.new devices.new.time }
+{
     let done = attempt(hart, devices, cache);
     match done {
         Done::NeedClock => Stepped::Stopped,

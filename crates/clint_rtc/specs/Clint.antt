@@ -1,5 +1,5 @@
 -- What the CLINT of one hart holds, and when its interrupts are pending.
-use Rattle.std.specs.Prelude.{ℕ, Bool, false, ◌*◌, ◌-◌, ◌/◌, ◌^◌, ◌&&◌, nat_le, nat_lt, Option, Some, None, if◌then◌else◌}
+use Rattle.std.specs.Prelude.{ℕ, Bool, false, ◌≡◌, ◌<◌, ◌+◌, ◌*◌, ◌-◌, ◌/◌, ◌^◌, ◌&&◌, nat_le, nat_lt, Option, Some, None, if◌then◌else◌}
 
 -- the software interrupt's bit, and the time from which the timer's is pending
 pub record Timer : Type 0 where
@@ -24,3 +24,7 @@ abbrev pub deadline : Timer → ℕ → Option ℕ
 deadline t clock =
     if nat_lt (mtime clock) t.mtimecmp && nat_le t.mtimecmp (2 ^ 56) then Some (t.mtimecmp * 100)
     else None
+
+-- for so many nanoseconds the timer interrupt stays as it is
+abbrev pub StaysFor : Timer → ℕ → ℕ → Type 0
+StaysFor t clock span = (later : ℕ) → later < span → is_due t (clock + later) ≡ is_due t clock

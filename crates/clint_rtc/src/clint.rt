@@ -1,7 +1,7 @@
 //! The core-local interruptor of one hart (Privileged ISA, Machine Timer Registers).
 
-ghost use Rattle.std.specs.Prelude.{◌≡◌};
-ghost use Rattle.clint_rtc.specs.Clint.{reset, mtime, is_due, deadline};
+ghost use Rattle.std.specs.Prelude.{◌≡◌, ◌<◌, ◌^◌};
+ghost use Rattle.clint_rtc.specs.Clint.{reset, mtime, is_due, deadline, StaysFor};
 ghost use Rattle.clint_rtc.specs.ClintMap.{register_at, shown, read, put, written};
 
 use crate::words::{high_half, joined, low_half};
@@ -134,6 +134,20 @@ impl Clint {
         } else {
             None
         }
+    }
+
+    /// For how many nanoseconds the timer interrupt stays as it is, at least.
+    #[tactic(auto, using(crate::proofs::Stays::stays))]
+    pub fn stays_for(&self, clock: u64) -> u64
+        requires { clock < 2 ^ 63 }
+        ensures { StaysFor self.now clock result }
+    {
+        if self.mtip(clock) {
+            return u64::MAX;
+        }
+        self.mtimecmp
+            .saturating_mul(NANOSECONDS_OF_A_TICK)
+            .saturating_sub(clock)
     }
 }
 

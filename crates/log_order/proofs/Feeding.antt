@@ -190,5 +190,5 @@ pub turns-counts : (p q : Progress) (limit index steps steps' : ℕ) (g h : Stat
 turns-counts p q limit index steps steps' g h (Ok made) old (state, made_is, steps_is) new =
     rw old (rw new (ran-counts limit made g h steps steps' state made_is steps_is))
 turns-counts p q limit index steps steps' g h (Err lost) old
-    (made, fewer, state, made_is, steps_is) new =
+    (made, fewer, state, made_is, steps_is, wants) new =
     rw old (rw new (ran-counts made made g h steps steps' state made_is steps_is))

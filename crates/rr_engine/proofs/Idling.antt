@@ -12,14 +12,14 @@ use Rattle.board.specs.declared.control.Control.{Control}
 use Rattle.board.specs.declared.control.Ending.{Ending}
 use Rattle.board.specs.declared.control.Window.{Window}
 use Rattle.board.specs.declared.control.Window.TheVariants as window
-use Rattle.board.specs.declared.devices.Devices.{Devices}
+use Rattle.system_bus.specs.declared.devices.Devices.{Devices}
 use Rattle.board.specs.declared.due.Due.{Due}
 use Rattle.board.specs.declared.due.Due.TheVariants as due_is
 use Rattle.board.specs.State.{State}
 use Rattle.board.specs.Close.{wakes, deadline, rests, close_window, close}
 use Rattle.board.specs.Due.{is_idle_window, due, due_closed, has_in_flight, interrupt_of, needs_clock}
 use Rattle.board.specs.Accept.{accept, taken, takes, takes_interrupt, takes_input, is_open, used, received, with_used_window, in_window, ended, with_levels}
-use Rattle.board.specs.Lines.{levels}
+use Rattle.system_bus.specs.Lines.{levels}
 use Rattle.board.specs.Turn.{attempt, settle, turn, turn_closed}
 use Rattle.board.specs.Runs.{is_run, after, step}
 use Rattle.board.proofs.Counting.{close-keeps}

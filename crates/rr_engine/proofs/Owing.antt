@@ -10,7 +10,7 @@ use Rattle.board.specs.declared.due.Due.{Due}
 use Rattle.board.specs.declared.due.Due.TheVariants as due_is
 use Rattle.board.specs.State.{State}
 use Rattle.uart16550.specs.Line.{Line}
-use Rattle.board.specs.Lines.{levels}
+use Rattle.system_bus.specs.Lines.{levels}
 use Rattle.board.specs.Close.{close}
 use Rattle.board.specs.Due.{due, due_by, due_closed, has_in_flight, interrupt_of, needs_clock}
 use Rattle.board.specs.Accept.{accept, taken, takes, takes_interrupt, takes_input, received, with_used_window, ended, with_levels}

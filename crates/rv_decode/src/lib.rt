@@ -11,7 +11,7 @@ mod ins;
 mod op;
 mod opcodes;
 
-pub use cache::DecodeCache;
+pub use cache::{DecodeCache, KnownWords};
 pub use decoder::decode;
 pub use ins::Ins;
 pub use op::Op;

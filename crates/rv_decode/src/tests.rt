@@ -3,9 +3,13 @@ use super::*;
 use std::test::Fail;
 
 /// The fields of an instruction, in the order of the struct.
-fn fields_of(word: u32) -> Option<(Op, u8, u8, u8, i32, u16)> {
-    let ins = decode(word)?;
+fn fields(ins: Option<Ins>) -> Option<(Op, u8, u8, u8, i32, u16)> {
+    let ins = ins?;
     Some((ins.op, ins.rd, ins.rs1, ins.rs2, ins.imm, ins.csr))
+}
+
+fn fields_of(word: u32) -> Option<(Op, u8, u8, u8, i32, u16)> {
+    fields(decode(word))
 }
 
 #[test]
@@ -46,13 +50,14 @@ fn each_format_has_its_fields(rt: HostRuntime) {
 
 #[test]
 fn a_word_at_the_address_of_another_is_decoded(rt: HostRuntime) -> Result<(), Fail> {
-    let mut cache = DecodeCache::new(rt.alloc())?;
-    let sub = decode(0x4000_0033);
-    assert_eq!(rt; cache.decode(0x8000_0000, 0x4000_0033), sub);
-    assert_eq!(rt; cache.decode(0x8000_0000, 0x4000_1033), None);
-    assert_eq!(rt; cache.decode(0x8000_1000, 0x4000_0033), sub);
-    let mut copy = cache.share()?;
-    assert_eq!(rt; cache.decode(0x8000_0000, 0x4000_0033), sub);
-    assert_eq!(rt; copy.decode(0x8000_0000, 0x0031_00b3), decode(0x0031_00b3));
+    let sub = Some((Op::Sub, 0, 0, 0, 0, 0));
+    let mut cache = DecodeCache::new(rt.alloc());
+    assert_eq!(rt; fields(cache.decode(0x8000_0000, 0x4000_0033)), sub);
+    assert!(rt; cache.decode(0x8000_0000, 0x4000_1033).is_none());
+    assert_eq!(rt; fields(cache.decode(0x8001_0000, 0x4000_0033)), sub);
+    let known = cache.known().ok_or("nothing is known")?;
+    assert_eq!(rt; fields(known.instruction(0x8000_0000, 0x4000_0033)), sub);
+    assert!(rt; known.instruction(0x8000_0000, 0x0031_00b3).is_none());
+    assert!(rt; cache.fresh().known().is_none());
     Ok(())
 }
