@@ -18,7 +18,7 @@ use Rattle.rv_exec.specs.Arithmetic.{sum, word, is_less_signed, without_bit_zero
 use Rattle.std.specs.Prelude.{nat_lt}
 use Rattle.rv_exec.specs.Registers.{register}
 use Rattle.rv_exec.specs.Kinds.{changed, writes}
-use Rattle.rv_exec.specs.Rows.{Local, Outcome, beside, jumps, branches, gets, loads, stores, in_ram, takes_reservation, reserves, is_reserved, stores_if_reserved, combined, swaps, modifies, puts_csr, exchanges, csr, calls, returns_from_trap, may_wait, waits, row, meaning}
+use Rattle.rv_exec.specs.Rows.{Local, Outcome, beside, jumps, branches, gets, loads, stores, in_ram, takes_reservation, reserves, is_reserved, stores_if_reserved, combined, swaps, modifies, puts_csr, exchanges, csr, calls, returns_from_trap, may_wait, waits, row, meaning, immediate}
 
 -- want of memory
 abbrev pub is_refusal : Done → Bool
@@ -95,14 +95,14 @@ puts-fed : {B : Type 0} (h : Hart) (s : B) (w rd old : ℕ) (c : Option Control)
 puts-fed h s w rd old None = refl
 puts-fed h s w rd old (Some c) = refl
 
-exchanges-fed : {B : Type 0} (h : Hart) (s : B) (w : ℕ) (i : Ins) (change : _) (value : ℕ) (old : Option ℕ) → Fed (beside s (exchanges h w i change value old))
-exchanges-fed h s w i change value None = refl
-exchanges-fed h s w i change value (Some old) =
-    if-local h s (writes change i.rs1) _ _ (puts-fed h s w i.rd old (write_of h.csrs i.csr h.mode (changed change old value))) refl
+exchanges-fed : {B : Type 0} (h : Hart) (s : B) (w : ℕ) (i : Ins) (change : _) (source value : ℕ) (old : Option ℕ) → Fed (beside s (exchanges h w i change source value old))
+exchanges-fed h s w i change source value None = refl
+exchanges-fed h s w i change source value (Some old) =
+    if-local h s (writes change source) _ _ (puts-fed h s w i.rd old (write_of h.csrs i.csr h.mode (changed change old value))) refl
 
-csr-fed : {B : Type 0} (inputs : Inputs) (h : Hart) (s : B) (w : ℕ) (i : Ins) (change : _) (value : ℕ) → Fed (beside s (csr inputs h w i change value))
+csr-fed : {B : Type 0} (inputs : Inputs) (h : Hart) (s : B) (w : ℕ) (i : Ins) (change : _) (source value : ℕ) → Fed (beside s (csr inputs h w i change source value))
 unfolding csr
-csr-fed inputs h s w i change value = exchanges-fed h s w i change value (read_of h.csrs i.csr h.mode inputs)
+csr-fed inputs h s w i change source value = exchanges-fed h s w i change source value (read_of h.csrs i.csr h.mode inputs)
 
 calls-fed : {B : Type 0} (h : Hart) (s : B) (mode : Mode) → Fed (beside s (calls h mode))
 calls-fed h s U = refl
@@ -169,12 +169,12 @@ row-fed m fed h s i w Ecall = calls-fed h s h.mode
 row-fed m fed h s i w Ebreak = refl
 row-fed m fed h s i w Mret = returns-fed h s w h.mode
 row-fed m fed h s i w Wfi = waits-fed (m.inputs s) h s w
-row-fed m fed h s i w Csrrw = csr-fed (m.inputs s) h s w i _ (register h.x i.rs1)
-row-fed m fed h s i w Csrrs = csr-fed (m.inputs s) h s w i _ (register h.x i.rs1)
-row-fed m fed h s i w Csrrc = csr-fed (m.inputs s) h s w i _ (register h.x i.rs1)
-row-fed m fed h s i w Csrrwi = csr-fed (m.inputs s) h s w i _ i.rs1
-row-fed m fed h s i w Csrrsi = csr-fed (m.inputs s) h s w i _ i.rs1
-row-fed m fed h s i w Csrrci = csr-fed (m.inputs s) h s w i _ i.rs1
+row-fed m fed h s i w Csrrw = csr-fed (m.inputs s) h s w i _ i.rs1 (register h.x i.rs1)
+row-fed m fed h s i w Csrrs = csr-fed (m.inputs s) h s w i _ i.rs1 (register h.x i.rs1)
+row-fed m fed h s i w Csrrc = csr-fed (m.inputs s) h s w i _ i.rs1 (register h.x i.rs1)
+row-fed m fed h s i w Csrrwi = csr-fed (m.inputs s) h s w i _ (immediate i) (immediate i)
+row-fed m fed h s i w Csrrsi = csr-fed (m.inputs s) h s w i _ (immediate i) (immediate i)
+row-fed m fed h s i w Csrrci = csr-fed (m.inputs s) h s w i _ (immediate i) (immediate i)
 row-fed m fed h s i w LrW = reserves-fed m h s i.rd (register h.x i.rs1)
 row-fed m fed h s i w ScW = conditional-fed m h s i.rd (register h.x i.rs1) (register h.x i.rs2)
 row-fed m fed h s i w AmoaddW = modifies-fed m h s i.rd (register h.x i.rs1) (λ old. combined AmoaddW old (register h.x i.rs2))

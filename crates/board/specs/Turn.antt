@@ -8,7 +8,8 @@ use Rattle.rv_csr.specs.Traps.{trapped, base}
 use Rattle.rv_exec.specs.declared.done.Done.{Done}
 use Rattle.rv_exec.specs.declared.done.Done.TheVariants.{Retired, Trap, NeedClock, NoMemory}
 use Rattle.rv_exec.specs.declared.hart.Hart.{Hart}
-use Rattle.rv_exec.specs.Rows.{Outcome, meaning, traps, beside, is_store}
+use Rattle.rv_exec.specs.Rows.{Outcome, meaning, traps, beside, store_of}
+use Rattle.rv_exec.specs.Rows as exec
 use Rattle.system_bus.specs.Time.{later}
 use Rattle.system_bus.specs.Memory.{ram_load}
 use Rattle.system_bus.specs.Access.{answers}
@@ -74,18 +75,18 @@ turn_closed g = settled g (attempt g.hart g.devices)
 unfoldable pub turn : State → State
 turn g = turn_closed (close g)
 
--- a word that is a store, SC.W or an AMO
-abbrev pub stores : Option Ins → Bool
-stores None = false
-stores (Some ins) = is_store ins.op
+-- a word may want memory where it stores to RAM or to the console's output
+abbrev pub word_wants_memory : Hart → Devices → Option Ins → Bool
+word_wants_memory h d None = false
+word_wants_memory h d (Some ins) = exec.wants_memory answers d (store_of h ins ins.op)
 
-abbrev pub stores_where_fetched : Option ℕ → Bool
-stores_where_fetched None = false
-stores_where_fetched (Some word) = stores (decoded word)
+abbrev pub fetched_wants_memory : Hart → Devices → Option ℕ → Bool
+fetched_wants_memory h d None = false
+fetched_wants_memory h d (Some word) = word_wants_memory h d (decoded word)
 
--- the instruction at pc may want memory, since it stores
+-- the instruction at pc may want memory
 unfoldable pub wants_memory : Hart → Devices → Bool
-wants_memory h d = stores_where_fetched (ram_load d.ram h.pc 4)
+wants_memory h d = fetched_wants_memory h d (ram_load d.ram h.pc 4)
 
 -- the same of the next turn
 unfoldable pub turn_wants_memory : State → Bool

@@ -1,5 +1,5 @@
 -- What an opcode's operations say of the word's instruction.
-use Rattle.std.proofs.Common.{◌≡◌, ◌≢◌, ◌<◌, ℕ, ◌*◌, ◌+◌, ◌^◌, Option, None, Some, refl, sym, ◌∙◌, ap, inl, inr, ◌⊎◌, arith, ◌%◌}
+use Rattle.std.proofs.Common.{◌≤◌, ◌≡◌, ◌≢◌, ◌<◌, ℕ, ◌*◌, ◌+◌, ◌^◌, Option, None, Some, refl, sym, ◌∙◌, ap, inl, inr, ◌⊎◌, arith, ◌%◌}
 use Rattle.std.specs.Prelude.{bit_and, filter}
 use Rattle.std.specs.Option.{option_map, option_or}
 use Rattle.std.proofs.lemmas.Nat.{and_mask}
@@ -148,28 +148,36 @@ op_imm w funct3 at3 e below other = elim (below_8 funct3 below) [
   ]
 ]
 
--- SYSTEM with another funct3
-pub zicsr : (w funct3 : ℕ) → funct3 ≡ field w 12 3 → bit_and w 0x7f ≡ 0x73 → funct3 < 8 → funct3 ≢ 0
+below_4 : (n : ℕ) → n < 4 → (n ≡ 0) ⊎ ((n ≡ 1) ⊎ ((n ≡ 2) ⊎ (n ≡ 3)))
+below_4 n h = grind arith
+
+-- SYSTEM with a funct3 for registers
+pub csr_registers : (w funct3 : ℕ) → funct3 ≡ field w 12 3 → bit_and w 0x7f ≡ 0x73 → funct3 < 4 → funct3 ≢ 0
     → keyed funct3_rows (funct3 * 2 ^ 12 + 0x73) ≡ meaning (row_of w)
-zicsr w funct3 at3 e below not0 = elim (below_8 funct3 below) [
+csr_registers w funct3 at3 e below not0 = elim (below_4 funct3 below) [
   | inl is ↦ absurd (not0 is)
   | inr r ↦ elim r [
     | inl is ↦ by_this_funct3 w funct3 0x73 1 at3 e is refl
     | inr r ↦ elim r [
       | inl is ↦ by_this_funct3 w funct3 0x73 2 at3 e is refl
-      | inr r ↦ elim r [
-        | inl is ↦ by_this_funct3 w funct3 0x73 3 at3 e is refl
-        | inr r ↦ elim r [
-          | inl is ↦ by_this_funct3 w funct3 0x73 4 at3 e is refl
-          | inr r ↦ elim r [
-            | inl is ↦ by_this_funct3 w funct3 0x73 5 at3 e is refl
-            | inr r ↦ elim r [
-              | inl is ↦ by_this_funct3 w funct3 0x73 6 at3 e is refl
-              | inr is ↦ by_this_funct3 w funct3 0x73 7 at3 e is refl
-            ]
-          ]
-        ]
-      ]
+      | inr is ↦ by_this_funct3 w funct3 0x73 3 at3 e is refl
+    ]
+  ]
+]
+
+four_to_seven : (n : ℕ) → n < 8 → 4 ≤ n → (n ≡ 4) ⊎ ((n ≡ 5) ⊎ ((n ≡ 6) ⊎ (n ≡ 7)))
+four_to_seven n h k = grind arith
+
+-- SYSTEM with a funct3 for immediates
+pub csr_immediates : (w funct3 : ℕ) → funct3 ≡ field w 12 3 → bit_and w 0x7f ≡ 0x73 → funct3 < 8 → 4 ≤ funct3
+    → keyed funct3_rows (funct3 * 2 ^ 12 + 0x73) ≡ meaning (row_of w)
+csr_immediates w funct3 at3 e below over = elim (four_to_seven funct3 below over) [
+  | inl is ↦ by_this_funct3 w funct3 0x73 4 at3 e is refl
+  | inr r ↦ elim r [
+    | inl is ↦ by_this_funct3 w funct3 0x73 5 at3 e is refl
+    | inr r ↦ elim r [
+      | inl is ↦ by_this_funct3 w funct3 0x73 6 at3 e is refl
+      | inr is ↦ by_this_funct3 w funct3 0x73 7 at3 e is refl
     ]
   ]
 ]

@@ -3,7 +3,7 @@
 use Rattle.std.specs.Prelude.{ℕ, ◌<◌, ◌^◌, ◌/◌, ◌%◌, ◌*◌, ◌+◌, ◌-◌, ℤ, pos, negsuc, nat_lt, if◌then◌else◌, Option}
 use Rattle.rv_decode.specs.declared.op.Op.{Op}
 use Rattle.rv_decode.specs.declared.format.Format.{Format}
-use Rattle.rv_decode.specs.declared.format.Format.TheVariants.{R, I, S, B, U, J, Shift, Csr, Plain}
+use Rattle.rv_decode.specs.declared.format.Format.TheVariants.{R, I, S, B, U, J, Shift, Csr, CsrImmediate, Plain}
 use Rattle.rv_decode.specs.declared.ins.Ins.{Ins}
 use Rattle.std.specs.Option.{option_map}
 use Rattle.rv_decode.specs.Table.{row_of}
@@ -51,6 +51,10 @@ imm_j w =
     signed 21
     (field w 31 1 * 2 ^ 20 + field w 12 8 * 2 ^ 12 + (field w 20 1 * 2 ^ 11 + field w 21 10 * 2))
 
+-- the number of a control register
+abbrev pub csr : ℕ → ℕ
+csr w = field w 20 12
+
 -- the instruction whose fields stand in w: those that the format lacks are 0
 unfoldable pub fields : Op → Format → ℕ → Ins
 fields op R w = record { op = op; rd = rd w; rs1 = rs1 w; rs2 = rs2 w; imm = pos 0; csr = 0 }
@@ -61,7 +65,9 @@ fields op U w = record { op = op; rd = rd w; rs1 = 0; rs2 = 0; imm = imm_u w; cs
 fields op J w = record { op = op; rd = rd w; rs1 = 0; rs2 = 0; imm = imm_j w; csr = 0 }
 fields op Shift w = record { op = op; rd = rd w; rs1 = rs1 w; rs2 = 0; imm = pos (rs2 w); csr = 0 }
 fields op Csr w =
-    record { op = op; rd = rd w; rs1 = rs1 w; rs2 = 0; imm = pos 0; csr = field w 20 12 }
+    record { op = op; rd = rd w; rs1 = rs1 w; rs2 = 0; imm = pos 0; csr = csr w }
+fields op CsrImmediate w =
+    record { op = op; rd = rd w; rs1 = 0; rs2 = 0; imm = pos (rs1 w); csr = csr w }
 fields op Plain w = record { op = op; rd = 0; rs1 = 0; rs2 = 0; imm = pos 0; csr = 0 }
 
 -- the instruction that a word is, if it is one

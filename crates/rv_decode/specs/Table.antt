@@ -37,9 +37,9 @@ funct3_rows = rows 0x707f format.I ((0x67, Jalr) ∷ [])
     ((0x13, Addi) ∷ (0x2013, Slti) ∷ (0x3013, Sltiu) ∷ (0x4013, Xori) ∷ (0x6013, Ori) ∷
     (0x7013, Andi) ∷ [])
     ++ rows 0x707f format.Plain ((0xf, Fence) ∷ (0x100f, FenceI) ∷ [])
-    ++ rows 0x707f format.Csr
-    ((0x1073, Csrrw) ∷ (0x2073, Csrrs) ∷ (0x3073, Csrrc) ∷ (0x5073, Csrrwi) ∷
-    (0x6073, Csrrsi) ∷ (0x7073, Csrrci) ∷ [])
+    ++ rows 0x707f format.Csr ((0x1073, Csrrw) ∷ (0x2073, Csrrs) ∷ (0x3073, Csrrc) ∷ [])
+    ++ rows 0x707f format.CsrImmediate
+    ((0x5073, Csrrwi) ∷ (0x6073, Csrrsi) ∷ (0x7073, Csrrci) ∷ [])
 
 -- by opcode, funct3 and funct7
 abbrev pub funct7_rows : List Row

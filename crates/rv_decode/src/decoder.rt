@@ -8,7 +8,7 @@ use crate::format::Format;
 use crate::ins::Ins;
 use crate::op::Op;
 use crate::opcodes::{
-    amo, branch, csr, immediate, jalr, load, misc_mem, op, privileged, shift, store,
+    amo, branch, csr, csr_immediate, immediate, jalr, load, misc_mem, op, privileged, shift, store,
 };
 
 // The opcodes (Unprivileged ISA, chapter 24 RV32/64G Instruction Set Listings), under OPCODE.
@@ -73,7 +73,9 @@ fn by_opcode(w: u32) -> Option<Ins>
         OP_IMM => instruction(immediate(funct3), Format::I, w),
         MISC_MEM => instruction(misc_mem(funct3), Format::Plain, w),
         SYSTEM if funct3 == 0 => instruction(privileged(w), Format::Plain, w),
-        SYSTEM => instruction(csr(funct3), Format::Csr, w),
+        // Zicsr has registers with funct3 1 to 3, and immediates with 5 to 7.
+        SYSTEM if funct3 < 4 => instruction(csr(funct3), Format::Csr, w),
+        SYSTEM => instruction(csr_immediate(funct3), Format::CsrImmediate, w),
         AMO => instruction(amo(field(w, 27, 5), field(w, 20, 5), funct3), Format::R, w),
         _ => None,
     }

@@ -1,7 +1,7 @@
 //! The fields of an instruction word.
 ghost use Rattle.std.specs.Prelude.{◌≡◌, ◌+◌, ◌^◌, ◌<◌, ◌≤◌, IfSome};
 ghost use Rattle.std.specs.Option.{option_map};
-ghost use Rattle.rv_decode.specs.Fields.{field as field_of, signed as signed_of, fields as fields_of, IsWithin, imm_i as imm_i_of, imm_s as imm_s_of, imm_b as imm_b_of, imm_u as imm_u_of, imm_j as imm_j_of};
+ghost use Rattle.rv_decode.specs.Fields.{field as field_of, signed as signed_of, fields as fields_of, IsWithin, imm_i as imm_i_of, imm_s as imm_s_of, imm_b as imm_b_of, imm_u as imm_u_of, imm_j as imm_j_of, csr as csr_of};
 
 use crate::format::Format;
 use crate::ins::Ins;
@@ -78,6 +78,14 @@ fn imm_j(w: u32) -> i32
     signed(high + low, 21)
 }
 
+/// The number of a control register.
+#[inline(always)]
+fn csr(w: u32) -> u16
+    ensures { result ≡ csr_of w }
+{
+    field(w, 20, 12) as u16
+}
+
 /// The instruction of the operation, if there is one, with the fields that stand in the word.
 #[inline(always)]
 pub fn instruction(op: Option<Op>, format: Format, w: u32) -> Option<Ins>
@@ -107,7 +115,8 @@ fn fields(op: Op, format: Format, w: u32) -> Ins
         Format::U => Ins { rd, imm: imm_u(w), ..plain },
         Format::J => Ins { rd, imm: imm_j(w), ..plain },
         Format::Shift => Ins { rd, rs1, imm: i32::from(rs2), ..plain },
-        Format::Csr => Ins { rd, rs1, csr: field(w, 20, 12) as u16, ..plain },
+        Format::Csr => Ins { rd, rs1, csr: csr(w), ..plain },
+        Format::CsrImmediate => Ins { rd, imm: i32::from(rs1), csr: csr(w), ..plain },
         Format::Plain => plain,
     }
 }

@@ -13,6 +13,8 @@ pub enum Format {
     Shift,
     /// A control register's number in bits 20 to 31.
     Csr,
+    /// The same, and an immediate without sign in the place of rs1.
+    CsrImmediate,
     /// No fields that play a part.
     Plain,
 }

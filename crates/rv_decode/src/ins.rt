@@ -6,11 +6,10 @@ use crate::op::Op;
 pub struct Ins {
     pub op: Op,
     pub rd: u8,
-    /// The first source register, or the immediate of CSRRWI, CSRRSI and CSRRCI.
     pub rs1: u8,
     pub rs2: u8,
-    /// The signed immediate, at its place in the word where the format is U, or the amount of a
-    /// shift.
+    /// The immediate: signed, at its place in the word where the format is U, and without sign at a
+    /// shift and at CSRRWI, CSRRSI and CSRRCI.
     pub imm: i32,
     /// The number of a control register.
     pub csr: u16,

@@ -1,7 +1,7 @@
 //! The operations of each opcode, by the fields that tell them apart.
-ghost use Rattle.std.specs.Prelude.{◌≡◌, ◌<◌, ◌≢◌, ◌+◌, ◌*◌, ◌^◌};
+ghost use Rattle.std.specs.Prelude.{◌≡◌, ◌<◌, ◌≤◌, ◌≢◌, ◌+◌, ◌*◌, ◌^◌};
 ghost use Rattle.std.specs.Option.{option_or};
-ghost use Rattle.rv_decode.specs.declared.format.Format.TheVariants.{R, I, S, B, Shift, Csr, Plain};
+ghost use Rattle.rv_decode.specs.declared.format.Format.TheVariants.{R, I, S, B, Shift, Csr, CsrImmediate, Plain};
 ghost use Rattle.rv_decode.specs.Table.{funct3_rows, funct7_rows, whole_rows, reserve_rows, atomic_rows};
 ghost use Rattle.rv_decode.specs.Keys.{keyed, of_format};
 
@@ -193,16 +193,28 @@ pub fn privileged(w: u32) -> Option<Op>
     }
 }
 
-/// SYSTEM with another funct3: Zicsr.
+/// SYSTEM with funct3 1 to 3: Zicsr on registers.
 #[inline(always)]
 pub fn csr(funct3: u32) -> Option<Op>
-    requires { funct3 < 8 }
+    requires { funct3 < 4 }
     ensures { of_format Csr result ≡ keyed funct3_rows (funct3 * 2 ^ 12 + 0x73) }
 {
     match funct3 {
         1 => Some(Op::Csrrw),
         2 => Some(Op::Csrrs),
         3 => Some(Op::Csrrc),
+        _ => None,
+    }
+}
+
+/// SYSTEM with funct3 5 to 7: Zicsr with immediates.
+#[inline(always)]
+pub fn csr_immediate(funct3: u32) -> Option<Op>
+    requires below { funct3 < 8 }
+    requires from { 4 ≤ funct3 }
+    ensures { of_format CsrImmediate result ≡ keyed funct3_rows (funct3 * 2 ^ 12 + 0x73) }
+{
+    match funct3 {
         5 => Some(Op::Csrrwi),
         6 => Some(Op::Csrrsi),
         7 => Some(Op::Csrrci),

@@ -40,6 +40,8 @@ fn each_format_has_its_fields(rt: HostRuntime) {
         (0x4020_d093, (Op::Srai, 1, 1, 0, 2, 0)),
         // csrrw x0, mtvec, x5
         (0x3052_9073, (Op::Csrrw, 0, 5, 0, 0, 0x305)),
+        // csrrci x6, mie, 31: the immediate without sign, and no register
+        (0x304f_f373, (Op::Csrrci, 6, 0, 0, 31, 0x304)),
         // mret
         (0x3020_0073, (Op::Mret, 0, 0, 0, 0, 0)),
     ];

@@ -20,7 +20,7 @@ use Rattle.rv_exec.specs.Arithmetic.{sum, word, is_less_signed, without_bit_zero
 use Rattle.std.specs.Prelude.{nat_lt}
 use Rattle.rv_exec.specs.Registers.{register}
 use Rattle.rv_exec.specs.Kinds.{changed, writes}
-use Rattle.rv_exec.specs.Rows.{load_of, needs_clock, is_clock_error, is_need_clock, Local, Outcome, beside, jumps, branches, gets, loads, stores, in_ram, takes_reservation, reserves, is_reserved, stores_if_reserved, combined, swaps, modifies, puts_csr, exchanges, csr, calls, returns_from_trap, may_wait, waits, row, meaning, Reaches, Refuses}
+use Rattle.rv_exec.specs.Rows.{load_of, needs_clock, is_clock_error, is_need_clock, Local, Outcome, beside, jumps, branches, gets, loads, stores, in_ram, takes_reservation, reserves, is_reserved, stores_if_reserved, combined, swaps, modifies, puts_csr, exchanges, csr, calls, returns_from_trap, may_wait, waits, row, meaning, Reaches, Refuses, immediate}
 
 abbrev pub Clockless : {B : Type 0} → Outcome B → Type 0
 Clockless o = is_need_clock o.done ≡ false
@@ -88,14 +88,14 @@ puts-clock : {B : Type 0} (h : Hart) (s : B) (w rd old : ℕ) (c : Option Contro
 puts-clock h s w rd old None = refl
 puts-clock h s w rd old (Some c) = refl
 
-exchanges-clock : {B : Type 0} (h : Hart) (s : B) (w : ℕ) (i : Ins) (change : Change) (value : ℕ) (old : Option ℕ) → Clockless (beside s (exchanges h w i change value old))
-exchanges-clock h s w i change value None = refl
-exchanges-clock h s w i change value (Some old) =
-    if-local s (writes change i.rs1) _ _ (puts-clock h s w i.rd old (write_of h.csrs i.csr h.mode (changed change old value))) refl
+exchanges-clock : {B : Type 0} (h : Hart) (s : B) (w : ℕ) (i : Ins) (change : Change) (source value : ℕ) (old : Option ℕ) → Clockless (beside s (exchanges h w i change source value old))
+exchanges-clock h s w i change source value None = refl
+exchanges-clock h s w i change source value (Some old) =
+    if-local s (writes change source) _ _ (puts-clock h s w i.rd old (write_of h.csrs i.csr h.mode (changed change old value))) refl
 
-csr-clock : {B : Type 0} (inputs : Inputs) (h : Hart) (s : B) (w : ℕ) (i : Ins) (change : Change) (value : ℕ) → Clockless (beside s (csr inputs h w i change value))
+csr-clock : {B : Type 0} (inputs : Inputs) (h : Hart) (s : B) (w : ℕ) (i : Ins) (change : Change) (source value : ℕ) → Clockless (beside s (csr inputs h w i change source value))
 unfolding csr
-csr-clock inputs h s w i change value = exchanges-clock h s w i change value (read_of h.csrs i.csr h.mode inputs)
+csr-clock inputs h s w i change source value = exchanges-clock h s w i change source value (read_of h.csrs i.csr h.mode inputs)
 
 calls-clock : {B : Type 0} (h : Hart) (s : B) (mode : Mode) → Clockless (beside s (calls h mode))
 calls-clock h s U = refl
@@ -163,12 +163,12 @@ row-clock m h s i w Ecall = calls-clock h s h.mode
 row-clock m h s i w Ebreak = refl
 row-clock m h s i w Mret = returns-clock h s w h.mode
 row-clock m h s i w Wfi = waits-clock (m.inputs s) h s w
-row-clock m h s i w Csrrw = csr-clock (m.inputs s) h s w i Write (register h.x i.rs1)
-row-clock m h s i w Csrrs = csr-clock (m.inputs s) h s w i Set (register h.x i.rs1)
-row-clock m h s i w Csrrc = csr-clock (m.inputs s) h s w i Clear (register h.x i.rs1)
-row-clock m h s i w Csrrwi = csr-clock (m.inputs s) h s w i Write i.rs1
-row-clock m h s i w Csrrsi = csr-clock (m.inputs s) h s w i Set i.rs1
-row-clock m h s i w Csrrci = csr-clock (m.inputs s) h s w i Clear i.rs1
+row-clock m h s i w Csrrw = csr-clock (m.inputs s) h s w i Write i.rs1 (register h.x i.rs1)
+row-clock m h s i w Csrrs = csr-clock (m.inputs s) h s w i Set i.rs1 (register h.x i.rs1)
+row-clock m h s i w Csrrc = csr-clock (m.inputs s) h s w i Clear i.rs1 (register h.x i.rs1)
+row-clock m h s i w Csrrwi = csr-clock (m.inputs s) h s w i Write (immediate i) (immediate i)
+row-clock m h s i w Csrrsi = csr-clock (m.inputs s) h s w i Set (immediate i) (immediate i)
+row-clock m h s i w Csrrci = csr-clock (m.inputs s) h s w i Clear (immediate i) (immediate i)
 row-clock m h s i w LrW = reserves-clock m h s i.rd (register h.x i.rs1)
 row-clock m h s i w ScW = conditional-clock m h s i.rd (register h.x i.rs1) (register h.x i.rs2)
 row-clock m h s i w AmoaddW = modifies-clock m h s i.rd (register h.x i.rs1) (λ old. combined AmoaddW old (register h.x i.rs2))

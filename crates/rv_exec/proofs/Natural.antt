@@ -12,7 +12,7 @@ use Rattle.rv_exec.specs.declared.system.Change.TheVariants.{Write, Set, Clear}
 use Rattle.rv_exec.specs.Answers.{Answers}
 use Rattle.rv_exec.specs.Arithmetic.{sum, word, extend_byte, extend_half}
 use Rattle.rv_exec.specs.Registers.{register}
-use Rattle.rv_exec.specs.Rows.{Local, Outcome, beside, retires, without_reservation, kept_by_store, gets, loads, stores, stored_at, in_ram, takes_reservation, reserves, is_reserved, stores_if_reserved, combined, swaps, modifies, csr, waits, row, meaning}
+use Rattle.rv_exec.specs.Rows.{Local, Outcome, beside, retires, without_reservation, kept_by_store, gets, loads, stores, stored_at, in_ram, takes_reservation, reserves, is_reserved, stores_if_reserved, combined, swaps, modifies, csr, waits, row, meaning, immediate}
 
 -- a change of the bus that no answer sees
 pub record Commutes {B : Type 0} (m : Answers B) (f : B → B) : Type 0 where
@@ -141,12 +141,12 @@ module _ {B : Type 0} (m : Answers B) (f : B → B) (same : Commutes m f) where
   row-natural h s i w Ebreak = refl
   row-natural h s i w Mret = refl
   row-natural h s i w Wfi = inputs-natural s (λ z. waits z h w)
-  row-natural h s i w Csrrw = inputs-natural s (λ z. csr z h w i Write (register h.x i.rs1))
-  row-natural h s i w Csrrs = inputs-natural s (λ z. csr z h w i Set (register h.x i.rs1))
-  row-natural h s i w Csrrc = inputs-natural s (λ z. csr z h w i Clear (register h.x i.rs1))
-  row-natural h s i w Csrrwi = inputs-natural s (λ z. csr z h w i Write i.rs1)
-  row-natural h s i w Csrrsi = inputs-natural s (λ z. csr z h w i Set i.rs1)
-  row-natural h s i w Csrrci = inputs-natural s (λ z. csr z h w i Clear i.rs1)
+  row-natural h s i w Csrrw = inputs-natural s (λ z. csr z h w i Write i.rs1 (register h.x i.rs1))
+  row-natural h s i w Csrrs = inputs-natural s (λ z. csr z h w i Set i.rs1 (register h.x i.rs1))
+  row-natural h s i w Csrrc = inputs-natural s (λ z. csr z h w i Clear i.rs1 (register h.x i.rs1))
+  row-natural h s i w Csrrwi = inputs-natural s (λ z. csr z h w i Write (immediate i) (immediate i))
+  row-natural h s i w Csrrsi = inputs-natural s (λ z. csr z h w i Set (immediate i) (immediate i))
+  row-natural h s i w Csrrci = inputs-natural s (λ z. csr z h w i Clear (immediate i) (immediate i))
   row-natural h s i w LrW = reserves-natural h s i.rd (register h.x i.rs1)
   row-natural h s i w ScW = conditional-natural h s i.rd (register h.x i.rs1) (register h.x i.rs2)
   row-natural h s i w AmoaddW = modifies-natural h s i.rd (register h.x i.rs1) (λ old. combined AmoaddW old (register h.x i.rs2))

@@ -21,7 +21,7 @@ use Rattle.std.specs.Prelude.{nat_lt}
 use Rattle.rv_exec.specs.Registers.{register}
 use Rattle.rv_exec.specs.Kinds.{changed, writes}
 use Rattle.rv_exec.specs.Laws.{UnlessRetired}
-use Rattle.rv_exec.specs.Rows.{Local, Outcome, beside, jumps, branches, gets, loads, stores, in_ram, takes_reservation, reserves, is_reserved, stores_if_reserved, combined, swaps, modifies, puts_csr, exchanges, csr, calls, returns_from_trap, may_wait, waits, row, meaning, Reaches, Refuses}
+use Rattle.rv_exec.specs.Rows.{Local, Outcome, beside, jumps, branches, gets, loads, stores, in_ram, takes_reservation, reserves, is_reserved, stores_if_reserved, combined, swaps, modifies, puts_csr, exchanges, csr, calls, returns_from_trap, may_wait, waits, row, meaning, Reaches, Refuses, immediate}
 
 abbrev pub Kept : {B : Type 0} → Outcome B → Hart → B → Type 0
 Kept o h s = UnlessRetired o.done ((o.hart ≡ h) × (o.bus ≡ s))
@@ -84,14 +84,14 @@ puts-kept : {B : Type 0} (h : Hart) (s : B) (w rd old : ℕ) (c : Option Control
 puts-kept h s w rd old None = (refl, refl)
 puts-kept h s w rd old (Some c) = tt
 
-exchanges-kept : {B : Type 0} (h : Hart) (s : B) (w : ℕ) (i : Ins) (change : Change) (value : ℕ) (old : Option ℕ) → Kept (beside s (exchanges h w i change value old)) h s
-exchanges-kept h s w i change value None = (refl, refl)
-exchanges-kept h s w i change value (Some old) =
-    if-local h s (writes change i.rs1) _ _ (puts-kept h s w i.rd old (write_of h.csrs i.csr h.mode (changed change old value))) tt
+exchanges-kept : {B : Type 0} (h : Hart) (s : B) (w : ℕ) (i : Ins) (change : Change) (source value : ℕ) (old : Option ℕ) → Kept (beside s (exchanges h w i change source value old)) h s
+exchanges-kept h s w i change source value None = (refl, refl)
+exchanges-kept h s w i change source value (Some old) =
+    if-local h s (writes change source) _ _ (puts-kept h s w i.rd old (write_of h.csrs i.csr h.mode (changed change old value))) tt
 
-csr-kept : {B : Type 0} (inputs : Inputs) (h : Hart) (s : B) (w : ℕ) (i : Ins) (change : Change) (value : ℕ) → Kept (beside s (csr inputs h w i change value)) h s
+csr-kept : {B : Type 0} (inputs : Inputs) (h : Hart) (s : B) (w : ℕ) (i : Ins) (change : Change) (source value : ℕ) → Kept (beside s (csr inputs h w i change source value)) h s
 unfolding csr
-csr-kept inputs h s w i change value = exchanges-kept h s w i change value (read_of h.csrs i.csr h.mode inputs)
+csr-kept inputs h s w i change source value = exchanges-kept h s w i change source value (read_of h.csrs i.csr h.mode inputs)
 
 calls-kept : {B : Type 0} (h : Hart) (s : B) (mode : Mode) → Kept (beside s (calls h mode)) h s
 calls-kept h s U = (refl, refl)
@@ -158,12 +158,12 @@ row-kept m h s i w Ecall = calls-kept h s h.mode
 row-kept m h s i w Ebreak = (refl, refl)
 row-kept m h s i w Mret = returns-kept h s w h.mode
 row-kept m h s i w Wfi = waits-kept (m.inputs s) h s w
-row-kept m h s i w Csrrw = csr-kept (m.inputs s) h s w i Write (register h.x i.rs1)
-row-kept m h s i w Csrrs = csr-kept (m.inputs s) h s w i Set (register h.x i.rs1)
-row-kept m h s i w Csrrc = csr-kept (m.inputs s) h s w i Clear (register h.x i.rs1)
-row-kept m h s i w Csrrwi = csr-kept (m.inputs s) h s w i Write i.rs1
-row-kept m h s i w Csrrsi = csr-kept (m.inputs s) h s w i Set i.rs1
-row-kept m h s i w Csrrci = csr-kept (m.inputs s) h s w i Clear i.rs1
+row-kept m h s i w Csrrw = csr-kept (m.inputs s) h s w i Write i.rs1 (register h.x i.rs1)
+row-kept m h s i w Csrrs = csr-kept (m.inputs s) h s w i Set i.rs1 (register h.x i.rs1)
+row-kept m h s i w Csrrc = csr-kept (m.inputs s) h s w i Clear i.rs1 (register h.x i.rs1)
+row-kept m h s i w Csrrwi = csr-kept (m.inputs s) h s w i Write (immediate i) (immediate i)
+row-kept m h s i w Csrrsi = csr-kept (m.inputs s) h s w i Set (immediate i) (immediate i)
+row-kept m h s i w Csrrci = csr-kept (m.inputs s) h s w i Clear (immediate i) (immediate i)
 row-kept m h s i w LrW = reserves-kept m h s i.rd (register h.x i.rs1)
 row-kept m h s i w ScW = conditional-kept m h s i.rd (register h.x i.rs1) (register h.x i.rs2)
 row-kept m h s i w AmoaddW = modifies-kept m h s i.rd (register h.x i.rs1) (λ old. combined AmoaddW old (register h.x i.rs2))

@@ -4,8 +4,8 @@ use Rattle.rv_csr.specs.declared.inputs.Inputs.{Inputs}
 use Rattle.rv_exec.specs.declared.bus.BusError.{BusError}
 use Rattle.rv_exec.specs.declared.bus.BusError.TheVariants.{Fault, NeedClock, NoMemory}
 
--- a bus by what each call answers and leaves. Want of memory is no part of it: a store may meet it
--- anywhere
+-- a bus by what each call answers and leaves. Whether memory is wanted is no part of it, but where it
+-- may be
 pub record Answers (B : Type 0) : Type 0 where
   -- what a load answers, and the bus after one that is answered by a value
   pub load : B → ℕ → ℕ → Result ℕ BusError
@@ -13,6 +13,8 @@ pub record Answers (B : Type 0) : Type 0 where
   -- whether a store may be made, and the bus after it
   pub can_store : B → ℕ → ℕ → Bool
   pub stored : B → ℕ → ℕ → ℕ → B
+  -- whether a store there may want memory
+  pub may_want : B → ℕ → ℕ → Bool
   pub is_ram : B → ℕ → Bool
   pub inputs : B → Inputs
 

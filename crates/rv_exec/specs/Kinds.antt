@@ -20,8 +20,9 @@ changed Write old value = value
 changed Set old value = bit_or old value
 changed Clear old value = bit_and old (bit_not w32 value)
 
--- to set or clear the bits of the field 0 writes nothing (9.1)
+-- to set or clear bits writes nothing where the row's source is 0: the number of its register, or
+-- its immediate (9.1)
 abbrev pub writes : Change → ℕ → Bool
-writes Write rs1 = true
-writes Set rs1 = not (rs1 == 0)
-writes Clear rs1 = not (rs1 == 0)
+writes Write source = true
+writes Set source = not (source == 0)
+writes Clear source = not (source == 0)

@@ -190,17 +190,17 @@ puts_csr h word rd old (Some c) = retires (record h { csrs = c }) rd old
 
 -- the old value goes to the register, and what the row makes of it to the control register (9.1 CSR
 -- Instructions)
-abbrev pub exchanges : Hart → ℕ → Ins → Change → ℕ → Option ℕ → Local
-exchanges h word i change value None = is_illegal h word
-exchanges h word i change value (Some old) =
-    if writes change i.rs1
+abbrev pub exchanges : Hart → ℕ → Ins → Change → ℕ → ℕ → Option ℕ → Local
+exchanges h word i change source value None = is_illegal h word
+exchanges h word i change source value (Some old) =
+    if writes change source
     then puts_csr h word i.rd old (write_of h.csrs i.csr h.mode (changed change old value))
     else retires h i.rd old
 
 -- a row on a control register reads first
-unfoldable pub csr : Inputs → Hart → ℕ → Ins → Change → ℕ → Local
-csr inputs h word i change value =
-    exchanges h word i change value (read_of h.csrs i.csr h.mode inputs)
+unfoldable pub csr : Inputs → Hart → ℕ → Ins → Change → ℕ → ℕ → Local
+csr inputs h word i change source value =
+    exchanges h word i change source value (read_of h.csrs i.csr h.mode inputs)
 
 -- ---- calls, returns and waits
 
@@ -304,12 +304,12 @@ row m h s i w Ecall = beside s (calls h h.mode)
 row m h s i w Ebreak = beside s (traps h 3 h.pc)
 row m h s i w Mret = beside s (returns_from_trap h w h.mode)
 row m h s i w Wfi = beside s (waits (m.inputs s) h w)
-row m h s i w Csrrw = beside s (csr (m.inputs s) h w i Write (first h i))
-row m h s i w Csrrs = beside s (csr (m.inputs s) h w i Set (first h i))
-row m h s i w Csrrc = beside s (csr (m.inputs s) h w i Clear (first h i))
-row m h s i w Csrrwi = beside s (csr (m.inputs s) h w i Write i.rs1)
-row m h s i w Csrrsi = beside s (csr (m.inputs s) h w i Set i.rs1)
-row m h s i w Csrrci = beside s (csr (m.inputs s) h w i Clear i.rs1)
+row m h s i w Csrrw = beside s (csr (m.inputs s) h w i Write i.rs1 (first h i))
+row m h s i w Csrrs = beside s (csr (m.inputs s) h w i Set i.rs1 (first h i))
+row m h s i w Csrrc = beside s (csr (m.inputs s) h w i Clear i.rs1 (first h i))
+row m h s i w Csrrwi = beside s (csr (m.inputs s) h w i Write (immediate i) (immediate i))
+row m h s i w Csrrsi = beside s (csr (m.inputs s) h w i Set (immediate i) (immediate i))
+row m h s i w Csrrci = beside s (csr (m.inputs s) h w i Clear (immediate i) (immediate i))
 row m h s i w LrW = reserves m h s i.rd (first h i)
 row m h s i w ScW = stores_if_reserved m h s i.rd (first h i) (second h i)
 row m h s i w AmoaddW = modifies m h s i.rd (first h i) (λ old. combined AmoaddW old (second h i))
@@ -330,22 +330,31 @@ meaning m h s i w = row m h s i w i.op
 abbrev pub Reaches : {B : Type 0} → Outcome B → Done → Hart → B → Type 0
 Reaches o done h' s' = (o.done ≡ done) × (o.hart ≡ h') × (o.bus ≡ s')
 
--- the rows that write to the bus
-abbrev pub is_store : Op → Bool
-is_store Sb = true
-is_store Sh = true
-is_store Sw = true
-is_store ScW = true
-is_store AmoaddW = true
-is_store AmoswapW = true
-is_store AmoxorW = true
-is_store AmoorW = true
-is_store AmoandW = true
-is_store AmominW = true
-is_store AmomaxW = true
-is_store AmominuW = true
-is_store AmomaxuW = true
-is_store op = false
+-- the address and the size of what SC.W writes: nothing, where the address isn't reserved
+abbrev pub store_if_reserved : Hart → ℕ → Option (ℕ × ℕ)
+store_if_reserved h at = if is_reserved h.reservation at then Some (at, 4) else None
+
+-- the address and the size of what a row writes
+abbrev pub store_of : Hart → Ins → Op → Option (ℕ × ℕ)
+store_of h i Sb = Some (address h i, 1)
+store_of h i Sh = Some (address h i, 2)
+store_of h i Sw = Some (address h i, 4)
+store_of h i ScW = store_if_reserved h (first h i)
+store_of h i AmoaddW = Some (first h i, 4)
+store_of h i AmoswapW = Some (first h i, 4)
+store_of h i AmoxorW = Some (first h i, 4)
+store_of h i AmoorW = Some (first h i, 4)
+store_of h i AmoandW = Some (first h i, 4)
+store_of h i AmominW = Some (first h i, 4)
+store_of h i AmomaxW = Some (first h i, 4)
+store_of h i AmominuW = Some (first h i, 4)
+store_of h i AmomaxuW = Some (first h i, 4)
+store_of h i op = None
+
+-- the store that a row makes, if it makes one, may want memory
+abbrev pub wants_memory : {B : Type 0} → Answers B → B → Option (ℕ × ℕ) → Bool
+wants_memory m s None = false
+wants_memory m s (Some store) = (store.0 % store.1 == 0) && m.may_want s store.0 store.1
 
 -- want of memory changes nothing, and comes where the instruction else retires
 abbrev pub Refuses : {B : Type 0} → Outcome B → Hart → B → Hart → B → Type 0

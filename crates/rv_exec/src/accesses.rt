@@ -1,6 +1,6 @@
 //! Loads and stores.
-ghost use Rattle.std.specs.Prelude.{◌*◌, ◌^◌, ◌≡◌, ◌≢◌, ◌<◌, ◌%◌, ◌==◌, ◌||◌, IsTrue};
-ghost use Rattle.rv_exec.specs.Rows.{Reaches, Refuses, loads, stores, stored_at, kept_by_store, given, stepped};
+ghost use Rattle.std.specs.Prelude.{◌*◌, ◌^◌, ◌≡◌, ◌≢◌, ◌<◌, ◌%◌, ◌==◌, ◌||◌, IsTrue, Some};
+ghost use Rattle.rv_exec.specs.Rows.{Reaches, Refuses, wants_memory, loads, stores, stored_at, kept_by_store, given, stepped};
 ghost use Rattle.rv_exec.specs.Kinds.{extended};
 
 use crate::arithmetic::{extend_byte, extend_half};
@@ -73,6 +73,8 @@ pub fn store<B: Bus>(h: &mut Hart, bus: &mut B, at: u32, size: u32, value: u32) 
         Reaches (stores B.answers h.old bus.old at size value) result h.new bus.new }
     ensures memory { result ≡ Done.NoMemory →
         Refuses (stores B.answers h.old bus.old at size value) h.old bus.old h.new bus.new }
+    ensures wants { result ≡ Done.NoMemory →
+        IsTrue (wants_memory B.answers bus.old (Some (at, size))) }
 {
     if at % size != 0 {
         return trap(MISALIGNED_STORE, at);

@@ -1,6 +1,6 @@
 //! LR.W, SC.W and the atomic operations on memory.
-ghost use Rattle.std.specs.Prelude.{◌≡◌, ◌≢◌, ◌<◌, ◌%◌, ◌==◌};
-ghost use Rattle.rv_exec.specs.Rows.{Reaches, Refuses, reserves, is_reserved, stores_if_reserved, combined, modifies, kept_by_store, given};
+ghost use Rattle.std.specs.Prelude.{◌≡◌, ◌≢◌, ◌<◌, ◌%◌, ◌==◌, IsTrue, Some};
+ghost use Rattle.rv_exec.specs.Rows.{Reaches, Refuses, wants_memory, store_if_reserved, reserves, is_reserved, stores_if_reserved, combined, modifies, kept_by_store, given};
 
 use crate::accesses::forget_reservation;
 use crate::arithmetic::{max_signed, min_signed};
@@ -54,6 +54,8 @@ pub fn store_conditional<B: Bus>(h: &mut Hart, bus: &mut B, rd: u8, at: u32, val
     ensures memory { result ≡ Done.NoMemory →
         Refuses (stores_if_reserved B.answers h.old bus.old rd at value)
         h.old bus.old h.new bus.new }
+    ensures wants { result ≡ Done.NoMemory →
+        IsTrue (wants_memory B.answers bus.old (store_if_reserved h.old at)) }
 {
     if at % 4 != 0 {
         return trap(MISALIGNED_STORE, at);
@@ -103,6 +105,8 @@ pub fn modify<B: Bus>(h: &mut Hart, bus: &mut B, rd: u8, at: u32, op: Op, b: u32
     ensures memory { result ≡ Done.NoMemory →
         Refuses (modifies B.answers h.old bus.old rd at (λ old. combined op old b))
         h.old bus.old h.new bus.new }
+    ensures wants { result ≡ Done.NoMemory →
+        IsTrue (wants_memory B.answers bus.old (Some (at, 4))) }
 {
     if at % 4 != 0 {
         return trap(MISALIGNED_STORE, at);

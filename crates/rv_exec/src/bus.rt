@@ -1,5 +1,5 @@
 //! What a hart reads and writes.
-ghost use Rattle.std.specs.Prelude.{◌≡◌, ◌≢◌, ◌<◌, ◌*◌, ◌^◌, IsTrue, IsOk, IfOk, is_ok, if◌then◌else◌};
+ghost use Rattle.std.specs.Prelude.{◌≡◌, ◌≢◌, ◌<◌, ◌*◌, ◌^◌, Err, IsTrue, IsOk, IfOk, is_ok, if◌then◌else◌};
 ghost use Rattle.rv_exec.specs.Answers.{Answers, is_access, StoreGives};
 
 use rv_csr::Inputs;
@@ -36,6 +36,7 @@ pub trait Bus {
         requires access { IsTrue (is_access at size) }
         requires fits { value < 2 ^ (8 * size) }
         ensures answer { StoreGives answers self.old at size value result self.new }
+        ensures memory { result ≡ Err BusError.NoMemory → IsTrue (answers.may_want self.old at size) }
         ensures ram { IsTrue (answers.is_ram self.old at)
             → IsTrue (answers.can_store self.old at size) };
 

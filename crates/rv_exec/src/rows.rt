@@ -1,7 +1,7 @@
 //! What each instruction does.
 ghost use Rattle.std.specs.Prelude.{◌*◌, ◌^◌, ◌≡◌, ◌≢◌, ◌<◌, ◌%◌, ◌==◌, ◌||◌, IsTrue};
 ghost use Rattle.rv_decode.specs.Fields.{IsWithin};
-ghost use Rattle.rv_exec.specs.Rows.{meaning, Reaches, Refuses, is_store, load_of, is_need_clock, needs_clock, given, stepped};
+ghost use Rattle.rv_exec.specs.Rows.{meaning, Reaches, Refuses, store_of, wants_memory, load_of, is_need_clock, needs_clock, given, stepped};
 ghost use Rattle.rv_exec.specs.Laws.{UnlessRetired};
 
 use crate::accesses::{Extend, load, store};
@@ -27,7 +27,8 @@ pub fn execute<B: Bus>(h: &mut Hart, bus: &mut B, ins: Ins, word: u32) -> Done
         Reaches (meaning B.answers h.old bus.old ins word) result h.new bus.new }
     ensures memory { result ≡ Done.NoMemory →
         Refuses (meaning B.answers h.old bus.old ins word) h.old bus.old h.new bus.new }
-    ensures stores { result ≡ Done.NoMemory → IsTrue (is_store ins.op) }
+    ensures wants { result ≡ Done.NoMemory →
+        IsTrue (wants_memory B.answers bus.old (store_of h.old ins ins.op)) }
 
     // What doesn't retire changes nothing, and only a load may need the clock.
     ensures unchanged { UnlessRetired result ((h.new ≡ h.old) × (bus.new ≡ bus.old)) }
@@ -45,7 +46,8 @@ fn perform<B: Bus>(h: &mut Hart, bus: &mut B, ins: Ins, word: u32) -> Done
         Reaches (meaning B.answers h.old bus.old ins word) result h.new bus.new }
     ensures memory { result ≡ Done.NoMemory →
         Refuses (meaning B.answers h.old bus.old ins word) h.old bus.old h.new bus.new }
-    ensures stores { result ≡ Done.NoMemory → IsTrue (is_store ins.op) }
+    ensures wants { result ≡ Done.NoMemory →
+        IsTrue (wants_memory B.answers bus.old (store_of h.old ins ins.op)) }
 {
     let a = h.x.get(ins.rs1);
     let b = h.x.get(ins.rs2);
@@ -103,12 +105,12 @@ fn perform<B: Bus>(h: &mut Hart, bus: &mut B, ins: Ins, word: u32) -> Done
         Op::Ebreak => trap(BREAKPOINT, h.pc),
         Op::Mret => return_from_trap(h, word),
         Op::Wfi => wait(h, &bus.inputs(), word),
-        Op::Csrrw => exchange(h, bus, ins, word, Change::Write, a),
-        Op::Csrrs => exchange(h, bus, ins, word, Change::Set, a),
-        Op::Csrrc => exchange(h, bus, ins, word, Change::Clear, a),
-        Op::Csrrwi => exchange(h, bus, ins, word, Change::Write, u32::from(ins.rs1)),
-        Op::Csrrsi => exchange(h, bus, ins, word, Change::Set, u32::from(ins.rs1)),
-        Op::Csrrci => exchange(h, bus, ins, word, Change::Clear, u32::from(ins.rs1)),
+        Op::Csrrw => exchange(h, bus, ins, word, Change::Write, u32::from(ins.rs1), a),
+        Op::Csrrs => exchange(h, bus, ins, word, Change::Set, u32::from(ins.rs1), a),
+        Op::Csrrc => exchange(h, bus, ins, word, Change::Clear, u32::from(ins.rs1), a),
+        Op::Csrrwi => exchange(h, bus, ins, word, Change::Write, imm, imm),
+        Op::Csrrsi => exchange(h, bus, ins, word, Change::Set, imm, imm),
+        Op::Csrrci => exchange(h, bus, ins, word, Change::Clear, imm, imm),
         Op::LrW => load_reserved(h, bus, ins.rd, a),
         Op::ScW => store_conditional(h, bus, ins.rd, a, b),
         Op::AmoaddW => modify(h, bus, ins.rd, a, Op::AmoaddW, b),

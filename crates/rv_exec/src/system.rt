@@ -37,13 +37,13 @@ fn changed(change: Change, old: u32, value: u32) -> u32
     }
 }
 
-/// Whether the row writes. To set or clear the bits of the field 0 writes nothing.
-fn writes(change: Change, rs1: u8) -> bool
-    ensures { result ≡ writes change rs1 }
+/// Whether the row writes. To set or clear bits with the source 0 writes nothing.
+fn writes(change: Change, source: u32) -> bool
+    ensures { result ≡ writes change source }
 {
     match change {
         Change::Write => true,
-        Change::Set | Change::Clear => rs1 != 0,
+        Change::Set | Change::Clear => source != 0,
     }
 }
 
@@ -68,7 +68,7 @@ fn read<B: Bus>(h: &Hart, bus: &B, at: u16) -> Result<u32, Illegal>
     }
 }
 
-/// A row on a control register.
+/// A row on a control register. Its source is the number of its register, or its immediate.
 #[inline(never)]
 #[tactic(auto, unfolding(crate::specs::Rows::csr))]
 pub fn exchange<B: Bus>(
@@ -77,17 +77,18 @@ pub fn exchange<B: Bus>(
     ins: Ins,
     word: u32,
     change: Change,
+    source: u32,
     value: u32,
 ) -> Done
     requires { IsWithin ins }
-    ensures done { result ≡ (csr (B.answers.inputs bus.now) h.old word ins change value).done }
-    ensures hart { h.new ≡ (csr (B.answers.inputs bus.now) h.old word ins change value).hart }
+    ensures done { result ≡ (csr (B.answers.inputs bus.now) h.old word ins change source value).done }
+    ensures hart { h.new ≡ (csr (B.answers.inputs bus.now) h.old word ins change source value).hart }
     ensures memory { result ≢ Done.NoMemory }
 {
     let Ok(old) = read(h, bus, ins.csr) else {
         return trap(ILLEGAL, word);
     };
-    if writes(change, ins.rs1)
+    if writes(change, source)
         && h.csrs
             .write(ins.csr, h.mode, changed(change, old, value))
             .is_err()

@@ -26,6 +26,7 @@ impl Bus for Cell {
       loaded = λ cell at size. cell;
       can_store = λ cell at size. at == 2 ^ 31;
       stored = λ cell at size value. record { word = value };
+      may_want = λ cell at size. false;
       is_ram = λ cell at. at == 2 ^ 31;
       inputs = λ cell. record { msip = false; mtip = false; meip = false; time = 0 };
     } };

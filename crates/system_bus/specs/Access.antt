@@ -1,5 +1,5 @@
 -- What the devices answer to the hart, and what an access leaves of them.
-use Rattle.std.specs.Prelude.{ℕ, ◌≡◌, Bool, true, false, ◌||◌, Option, Some, None, is_some, Result, Ok, Err, if◌then◌else◌}
+use Rattle.std.specs.Prelude.{ℕ, ◌≡◌, Bool, true, false, ◌||◌, ◌==◌, Option, Some, None, is_some, Result, Ok, Err, if◌then◌else◌}
 use Rattle.rv_csr.specs.declared.inputs.Inputs.{Inputs}
 use Rattle.rv_exec.specs.Answers.{Answers}
 use Rattle.rv_exec.specs.declared.bus.BusError.{BusError}
@@ -95,6 +95,19 @@ loaded d at size =
 unfoldable pub can_store : Devices → ℕ → ℕ → Bool
 can_store d at size = lies_in d.ram at size || is_some (register_at at size)
 
+-- the register takes the console's output: the UART's at offset 0
+abbrev pub region_takes_output : Region → ℕ → Bool
+region_takes_output region_is.Uart off = off == 0
+region_takes_output region off = false
+
+abbrev pub takes_output : Option Register → Bool
+takes_output None = false
+takes_output (Some register) = region_takes_output register.region register.offset
+
+-- RAM may want memory for a store, since its pages may be shared, and so may the console's output
+unfoldable pub may_want : Devices → ℕ → ℕ → Bool
+may_want d at size = lies_in d.ram at size || takes_output (register_at at size)
+
 -- the devices after a store
 unfoldable pub stored : Devices → ℕ → ℕ → ℕ → Devices
 stored d at size value =
@@ -118,6 +131,7 @@ answers = record {
   loaded = loaded;
   can_store = can_store;
   stored = stored;
+  may_want = may_want;
   is_ram = λ d at. lies_in d.ram at 4;
   inputs = inputs;
 }

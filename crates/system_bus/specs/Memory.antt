@@ -30,6 +30,7 @@ ram_answers = record {
   loaded = λ ram at size. ram;
   can_store = lies_in;
   stored = ram_store;
+  may_want = lies_in;
   is_ram = λ ram at. lies_in ram at 4;
   inputs = λ ram. record { msip = false; mtip = false; meip = false; time = 0 };
 }

@@ -1,12 +1,12 @@
 //! RAM and the devices, as the hart sees them.
 
-ghost use Rattle.std.specs.Prelude.{◌≡◌, ◌<◌, ◌*◌, ◌^◌, IfOk, is_ok, if◌then◌else◌};
+ghost use Rattle.std.specs.Prelude.{◌≡◌, ◌<◌, ◌*◌, ◌^◌, Err, IsTrue, IfOk, is_ok, if◌then◌else◌};
 ghost use Rattle.ram_pages.specs.Memory.{IsSize};
 ghost use Rattle.rv_exec.specs.Rows.{is_clock_error};
 ghost use Rattle.system_bus.specs.Time.{Time as AClock};
 ghost use Rattle.system_bus.specs.Lines.{levels};
 ghost use Rattle.system_bus.specs.MemoryMap.{register_at as register_at_of};
-ghost use Rattle.system_bus.specs.Access.{inputs, load, register_read, register_after_read, RegisterTakes};
+ghost use Rattle.system_bus.specs.Access.{inputs, load, register_read, register_after_read, RegisterTakes, takes_output};
 
 use crate::NoMemory;
 use crate::console::Console;
@@ -92,7 +92,9 @@ impl Devices {
     #[inline(never)]
     fn store_register(&mut self, at: u32, size: u32, value: u32) -> Result<(), BusError>
         requires { value < 2 ^ (8 * size) }
-        ensures { RegisterTakes self.old (register_at_of at size) value result self.new }
+        ensures taken { RegisterTakes self.old (register_at_of at size) value result self.new }
+        ensures memory { result ≡ Err BusError.NoMemory →
+            IsTrue (takes_output (register_at_of at size)) }
     {
         let Some(register) = register_at(at, size) else {
             return Err(BusError::Fault);
@@ -164,7 +166,7 @@ impl Bus for Devices {
     }
 
     #[inline(always)]
-    #[tactic(auto, unfolding(crate::specs::Access::can_store, crate::specs::Access::stored, crate::specs::Memory::ram_store), using(crate::proofs::Lying::lying))]
+    #[tactic(auto, unfolding(crate::specs::Access::can_store, crate::specs::Access::stored, crate::specs::Access::may_want, crate::specs::Memory::ram_store), using(crate::proofs::Lying::lying))]
     fn store(&mut self, at: u32, size: u32, value: u32) -> Result<(), BusError> {
         match self.ram.ram.store_aligned(at, size, value) {
             Ok(()) => return Ok(()),

@@ -238,7 +238,7 @@ impl Uart {
 
     /// Puts a byte into a register.
     fn put(&mut self, register: Register, byte: u8)
-        requires { 0 < self.old.room }
+        requires { register ≡ Register.RbrThr → 0 < self.old.room }
         ensures { self.new.line ≡ put self.old.line byte register }
     {
         match register {
@@ -258,9 +258,9 @@ impl Uart {
         }
     }
 
-    /// Writes the register at this offset.
+    /// Writes the register at this offset. The transmitter's alone, at 0, needs room.
     pub fn write(&mut self, off: u32, byte: u8)
-        requires { 0 < self.old.room }
+        requires { off ≡ 0 → 0 < self.old.room }
         ensures { self.new.line ≡ written self.old.line off byte }
     {
         let dlab = self.lcr.contains(LineControl::DIVISOR_LATCH);

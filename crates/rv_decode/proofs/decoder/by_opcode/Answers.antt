@@ -2,9 +2,9 @@
 use Rattle.std.proofs.Common.{◌∙◌, [], ◌∷◌, Some, None, refl, arith}
 use Rattle.std.proofs.lemmas.Bool.Decides.{nat_tests}
 use Rattle.rv_decode.specs.declared.op.Op.TheVariants.{Lui, Auipc, Jal}
-use Rattle.rv_decode.specs.declared.format.Format.TheVariants.{R, I, S, B, U, J, Shift, Csr, Plain}
+use Rattle.rv_decode.specs.declared.format.Format.TheVariants.{R, I, S, B, U, J, Shift, Csr, CsrImmediate, Plain}
 use Rattle.rv_decode.proofs.Narrow.{no_row}
-use Rattle.rv_decode.proofs.Map.{as_decoded, by_opcode, by_funct3, by_funct7, shifts, by_whole, by_funct5, op_imm, zicsr}
+use Rattle.rv_decode.proofs.Map.{as_decoded, by_opcode, by_funct3, by_funct7, shifts, by_whole, by_funct5, op_imm, csr_registers, csr_immediates}
 use Rattle.rv_decode.proofs.decoder.by_opcode.Goals as goal
 
 pub returns-in-55-clause-instruction : goal.returns-in-55-clause-instruction
@@ -44,7 +44,10 @@ pub returns-in-115-clause-instruction : goal.returns-in-115-clause-instruction
 returns-in-115-clause-instruction c = c.instruction-in-115.ensures.fields ∙ as_decoded c.args.w Plain c.privileged.result (c.privileged.ensures ∙ by_whole c.args.w c.field-funct3.result (omega arith) c.field-funct3.ensures.value c.in-115.is c.if-funct3-eq0.true)
 
 pub returns-in-115-2-clause-instruction : goal.returns-in-115-2-clause-instruction
-returns-in-115-2-clause-instruction c = c.instruction-in-115-2.ensures.fields ∙ as_decoded c.args.w Csr c.csr.result (c.csr.ensures ∙ zicsr c.args.w c.field-funct3.result c.field-funct3.ensures.value c.in-115.is c.field-funct3.ensures.bound c.if-funct3-eq0.false)
+returns-in-115-2-clause-instruction c = c.instruction-in-115-2.ensures.fields ∙ as_decoded c.args.w Csr c.csr.result (c.csr.ensures ∙ csr_registers c.args.w c.field-funct3.result c.field-funct3.ensures.value c.in-115.is c.if-funct3-lt4.true c.if-funct3-eq0.false)
+
+pub returns-in-115-3-clause-instruction : goal.returns-in-115-3-clause-instruction
+returns-in-115-3-clause-instruction c = c.instruction-in-115-3.ensures.fields ∙ as_decoded c.args.w CsrImmediate c.csr_immediate.result (c.csr_immediate.ensures ∙ csr_immediates c.args.w c.field-funct3.result c.field-funct3.ensures.value c.in-115.is c.field-funct3.ensures.bound c.if-funct3-lt4.false)
 
 pub returns-in-47-clause-instruction : goal.returns-in-47-clause-instruction
 returns-in-47-clause-instruction c = c.instruction-in-47.ensures.fields ∙ as_decoded c.args.w R c.amo.result (c.amo.ensures ∙ by_funct5 c.args.w c.field-in-47.result c.field-in-47-2.result c.field-funct3.result c.field-in-47.ensures.value c.field-in-47-2.ensures.value c.field-funct3.ensures.value c.in-47.is)
