@@ -25,7 +25,7 @@ ran-again (suc n) g =
     ]
 
 -- with room for more turns than a slice has, another thing is due after those that run
-instruction : (count : ℕ) (g h : State) → Counts g.control g.devices.time
+pub instruction : (count : ℕ) (g h : State) → Counts g.control g.devices.time
     → count ≡ ran (2 ^ 32 - 1) g
     → h ≡ after (2 ^ 32 - 1) g → step g (event.Instruction count) ≡ Some h
 instruction count g h counts made state =

@@ -41,7 +41,7 @@ pub then-more : (o : Option State) (f : State → Option State) (h : State) → 
 then-more None f h e = absurd cc
 then-more (Some mid) f h e = (mid, refl, e)
 
-abbrev some_state : State → Option State
+abbrev pub some_state : State → Option State
 some_state g = Some g
 
 pub some_is : (g h : State) → some_state g ≡ some_state h → g ≡ h

@@ -279,6 +279,12 @@ whole-right bytes at g mid last end r w whole =
     no-wrong g rest (found.Event e) d h ended none (going, _, _, _, _, _) =
         some-not-none g.control.ended ended going
 
+pub one-whole : (bytes : List ℕ) (g last end : State) → IsWhole bytes g last → IsWhole bytes g end
+    → last ≡ end
+one-whole bytes g last end v w =
+    (same-halt v.events w.events bytes g [] [] last end v.accepted (whole-halts last) w.accepted
+    (whole-halts end)).2
+
 refusal-of : ℕ → ℕ → Due → Found → Refusal
 refusal-of index offset d f = record { index = index; offset = offset; due = d; found = f }
 

@@ -7,6 +7,7 @@ use Rattle.event_log.specs.declared.event.Event.TheVariants as event
 use Rattle.board.specs.State.{State}
 use Rattle.board.specs.Accept.{takes_memory}
 use Rattle.board.specs.Due.{due}
+use Rattle.board.specs.Turn.{turn_wants_memory}
 use Rattle.board.specs.Runs.{is_run, after, ran, step, due_at}
 use Rattle.board.specs.declared.due.Due.{Due}
 use Rattle.log_order.specs.declared.refusal.Refusal.{Refusal}
@@ -55,9 +56,12 @@ refused p g offset d f = record p {
 abbrev pub found_as : State → Event → Found
 found_as g e = if is_some g.control.ended then found.MoreBytes else found.Event e
 
--- memory was refused: before the last of an INSTRUCTION's turns, or where console bytes came
+-- memory was refused: before the last of an INSTRUCTION's turns, where the next one stores, or where
+-- console bytes came
 abbrev pub Halts : State → Event → State → Type 0
-Halts g (event.Instruction n) h = (made : ℕ) × (made < n) × (h ≡ after made g) × (made ≡ ran made g)
+Halts g (event.Instruction n) h =
+    (made : ℕ) × (made < n) × (h ≡ after made g) × (made ≡ ran made g)
+    × (turn_wants_memory h ≡ true)
 Halts g e h = (takes_memory e ≡ true) × IsSome (step g e) × (h ≡ g)
 
 -- what becomes of an event, where none was refused before
@@ -94,12 +98,13 @@ abbrev pub IsNoTurn : Event → Type 0
 IsNoTurn (event.Instruction count) = ⊥
 IsNoTurn other = Unit {0}
 
--- As many turns as run stand for an INSTRUCTION, and none for no event; or memory was refused, and
--- the turns before stay made.
+-- As many turns as run stand for an INSTRUCTION, and none for no event; or memory was refused where
+-- the next turn stores, and the turns before stay made.
 abbrev pub Advances : Progress → Result ℕ AllocError → Progress → Type 0
 Advances p (Ok zero) q = (is_run (due p.machine) ≡ false) × (q ≡ p)
 Advances p (Ok (suc n)) q =
     (step p.machine (event.Instruction (suc n)) ≡ Some q.machine) × (q ≡ accepted p q.machine)
 Advances p (Err error) q =
-    ((made : ℕ) × (q.machine ≡ after made p.machine) × (made ≡ ran made p.machine))
+    ((made : ℕ) × (q.machine ≡ after made p.machine) × (made ≡ ran made p.machine)
+    × (turn_wants_memory q.machine ≡ true))
     × (q.index ≡ p.index) × (q.refusal ≡ None)

@@ -39,6 +39,14 @@ Judges bytes at g (Some error.NoMemory) q = q.refusal ≡ None
 abbrev pub RunsLog : List ℕ → ℕ → State → RunLog → Type 0
 RunsLog bytes at g result = Judges bytes at g result.end result.runner
 
+-- where the run of a log leads that ended here: the runner stands there and has its console bytes,
+-- and nothing was refused; or memory was
+abbrev pub ComesTo : State → Option FeedError → Progress → Type 0
+ComesTo last None q =
+    (q.machine ≡ last) × (q.out ≡ last.devices.uart.out) × (q.refusal ≡ None)
+ComesTo last (Some error.Refused) q = ⊥
+ComesTo last (Some error.NoMemory) q = q.refusal ≡ None
+
 -- the event at a place is accepted, and what follows stands at the next place; or it is wrong
 abbrev pub Follows : List ℕ → ℕ → Progress → Result ℕ FeedError → Progress → Type 0
 Follows bytes place p (Ok next) q =

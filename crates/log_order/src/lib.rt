@@ -8,7 +8,7 @@ mod runner;
 #[cfg(test)]
 mod tests;
 
-pub use laws::{end_is_spelled, longest, one_verdict};
+pub use laws::{end_is_spelled, longest, one_verdict, recorded_is_accepted};
 pub use log::{RunLog, run_log};
 pub use refusal::{Found, Refusal};
 pub use runner::{FeedError, Runner};
