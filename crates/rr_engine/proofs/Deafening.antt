@@ -67,11 +67,19 @@ deaf-goes : (o : Debt) (p r : Stand) (i : Intake) (x : Result (Unit {0}) Break) 
     → Stops Entire o (record p { input = i }) r x → Goes o p r (Err (or_memory ConsoleRead x))
 deaf-goes o p r i (Ok done) f stops = (
   deaf-to o p r i f stops.0,
-  (deaf-rose o p r i f stops.0, λ stood. deaf-logged o Entire p r i f stops.1),
+  (
+    deaf-rose o p r i f stops.0,
+    λ stood. deaf-logged o Entire p r i f stops.1,
+    stops.0.console_faults,
+  ),
 )
 deaf-goes o p r i (Err LogWrite) f stops = (
   deaf-to o p r i f stops.0,
-  (deaf-rose o p r i f stops.0, λ stood. absurd (not-both p.log.faults r.log.faults stops.1 stood)),
+  (
+    deaf-rose o p r i f stops.0,
+    λ stood. absurd (not-both p.log.faults r.log.faults stops.1 stood),
+    stops.0.console_faults,
+  ),
 )
 deaf-goes o p r i (Err NoMemory) f stops = (deaf-to o p r i f stops, tt)
 deaf-goes o p r i (Err ConsoleRead) f stops = absurd stops

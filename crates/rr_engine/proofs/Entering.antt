@@ -110,7 +110,7 @@ unnoted p o i before m w e LogWrite h s is n = (
     input_faults = tt;
     clock = gave-one Part before p.gave e h.value;
   },
-  n.2,
+  (n.2, refl, h.faults),
 )
 unnoted p o i before m w e NoMemory h s is n = (
   record {

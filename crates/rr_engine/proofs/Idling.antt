@@ -27,6 +27,7 @@ use Rattle.rr_engine.specs.Recording.{IsOwn}
 use Rattle.rr_engine.specs.Work.{is_restless, work}
 use Rattle.rr_engine.proofs.Joining.{some_state, some_is}
 use Rattle.rr_engine.proofs.Owing.{level-keeps}
+use Rattle.rr_engine.proofs.Entering.{IsPlain}
 use Rattle.rr_engine.proofs.Falling.{Means, means}
 use Rattle.rr_engine.proofs.Running.{bit-most}
 
@@ -163,7 +164,7 @@ IsInner event.Exception = Unit {0}
 IsInner (event.Clock value) = Unit {0}
 IsInner other = ⊥
 
-inner-own : (e : Event) → IsInner e → IsOwn e
+pub inner-own : (e : Event) → IsInner e → IsOwn e
 inner-own event.Interrupt i = tt
 inner-own event.Exception i = tt
 inner-own (event.Clock value) i = tt
@@ -173,6 +174,17 @@ inner-own (event.Block id ok) i = absurd i
 inner-own (event.Net packet) i = absurd i
 inner-own (event.Checkpoint idle) i = absurd i
 inner-own (event.End reason code) i = absurd i
+
+pub inner-plain : (e : Event) → IsInner e → IsPlain e
+inner-plain event.Interrupt i = tt
+inner-plain event.Exception i = tt
+inner-plain (event.Clock value) i = tt
+inner-plain (event.Instruction n) i = absurd i
+inner-plain (event.CharRead bytes) i = absurd i
+inner-plain (event.Block id ok) i = absurd i
+inner-plain (event.Net packet) i = absurd i
+inner-plain (event.Checkpoint idle) i = absurd i
+inner-plain (event.End reason code) i = absurd i
 
 inner-leaves : (e : Event) (c c' : Control) → IsInner e → Leaves c e c' → (c'.window ≡ c.window) × (c'.ended ≡ c.ended)
 inner-leaves event.Interrupt c c' i l = l
@@ -227,12 +239,16 @@ settle-window g (done.Trap cause value) h b = refl
 settle-window g done.NeedClock h b = refl
 settle-window g done.NoMemory h b = refl
 
-turn-idle : (g : State) → (turn g).control.window ≡ window.Idle false → g.control.window ≡ window.Idle false
+turn-closed : (g : State) → (turn g).control.window ≡ window.Idle false
+    → (close g).control.window ≡ window.Idle false
 unfolding turn turn_closed
-turn-idle g w =
+turn-closed g w =
     let k = close g in
     let o = attempt k.hart k.devices in
-    close-from g (sym (settle-window k o.done o.hart o.bus) ∙ w)
+    sym (settle-window k o.done o.hart o.bus) ∙ w
+
+turn-idle : (g : State) → (turn g).control.window ≡ window.Idle false → g.control.window ≡ window.Idle false
+turn-idle g w = close-from g (turn-closed g w)
 
 pub after-idle : (n : ℕ) (g : State) → (after n g).control.window ≡ window.Idle false → g.control.window ≡ window.Idle false
 unfolding after
@@ -242,6 +258,27 @@ after-idle (suc n) g =
       | inl on ↦ rw on (λ w. turn-idle g (after-idle n (turn g) w))
       | inr off ↦ rw off (λ w. w)
     ]
+
+-- a turn that is due is made in no idle window
+turn-shut : (g : State) → due g ≡ due_is.Run → (turn g).control.window ≡ window.Idle false → ⊥
+unfolding due due_closed
+turn-shut g d w =
+    let k = close g in
+    let m = means k.control k.devices.time.count k.devices.finisher (has_in_flight k.devices)
+    (is_some (interrupt_of k)) (needs_clock k) in
+    let shut : is_idle_window k.control.window ≡ false =
+    subst (λ (z : Due). Means k.control (is_some (interrupt_of k)) (needs_clock k) z) d m in
+    not-both (sym shut ∙ ap is_idle_window (turn-closed g w))
+  where
+    not-both : false ≡ true → ⊥
+    not-both e = cc
+
+pub after-shut : (n : ℕ) (g : State) → 1 ≤ n → due g ≡ due_is.Run
+    → (after n g).control.window ≡ window.Idle false → ⊥
+unfolding after
+after-shut zero g some d = absurd (omega (arith, some))
+after-shut (suc n) g some d =
+    rw (ap is_run d) (λ w. turn-shut g d (after-idle n (turn g) w))
 
 -- ---- a piece of the input
 

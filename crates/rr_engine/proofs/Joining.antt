@@ -1,6 +1,6 @@
 -- Parts of a recording, one after another.
 use Rattle.std.proofs.Common.{◌≡◌, ℕ, false, List, [], ◌∷◌, ◌++◌, refl, sym, ap, ◌∙◌, subst, append_assoc, append-nil}
-use Rattle.std.specs.Prelude.{Some, None, Result, Ok, Err}
+use Rattle.std.specs.Prelude.{Some, Result, Ok, Err}
 use Rattle.std.specs.declared.option.Option.{Option}
 use Rattle.std.specs.List.{AllByRecursion}
 use Rattle.outside.specs.Causes.{Rose, Stood}
@@ -10,9 +10,10 @@ use Rattle.event_log.specs.declared.event.Event.{Event}
 use Rattle.event_log.specs.Spelling.{text, texts, IsEvent}
 use Rattle.event_log.specs.Writing.{Writer}
 use Rattle.board.specs.State.{State}
-use Rattle.board.specs.Runs.{step, then_run, run}
+use Rattle.board.specs.Runs.{step, run}
 use Rattle.board.specs.Taken.{with_out, map_out}
 use Rattle.board.proofs.TakenLaws.{run-with}
+pub use Rattle.log_order.proofs.Following.{some_state, some_is, then-more}
 use Rattle.rr_engine.specs.declared.parts.Break.{Break}
 use Rattle.rr_engine.specs.declared.parts.Break.TheVariants.{ConsoleRead, ConsoleWrite, LogWrite, NoMemory}
 use Rattle.rr_engine.specs.Stand.{Stand}
@@ -21,17 +22,6 @@ use Rattle.rr_engine.specs.Recording.{clock_value, clock_values, Took, Appended,
 use Rattle.rr_engine.proofs.Hearing.{heard-then, heard-none, read-then, read-none}
 
 -- ---- runs
-
-abbrev pub some_state : State → Option State
-some_state g = Some g
-
-pub some_is : (g h : State) → some_state g ≡ some_state h → g ≡ h
-some_is g h e = cc
-
-pub then-more : (o : Option State) (f : State → Option State) (g' : State) → then_run o f ≡ Some g'
-    → (h : State) × (o ≡ Some h) × (f h ≡ Some g')
-then-more None f g' e = absurd cc
-then-more (Some h) f g' e = (h, refl, e)
 
 pub run-none : (g : State) → run g [] ≡ Some g
 unfolding run
@@ -235,14 +225,21 @@ broke-then o o' p q r ConsoleRead a h =
     let Q : ℕ → Type 0 = λ n. Stood n r.log.faults in (
       subst P a.input_faults h.0,
       λ stood. logged-after Entire o o' p q r a (h.1 (subst Q (sym a.log_faults) stood)),
+      h.2 ∙ a.console_faults,
     )
 broke-then o o' p q r ConsoleWrite a h =
     let P : ℕ → Type 0 = λ n. Rose n r.console_faults in
     let Q : ℕ → Type 0 = λ n. Stood n r.log.faults in (
       subst P a.console_faults h.0,
       λ stood. logged-after Part o o' p q r a (h.1 (subst Q (sym a.log_faults) stood)),
+      h.2 ∙ a.input_faults,
     )
-broke-then o o' p q r LogWrite a h = let P : ℕ → Type 0 = λ n. Rose n r.log.faults in subst P a.log_faults h
+broke-then o o' p q r LogWrite a h =
+    let P : ℕ → Type 0 = λ n. Rose n r.log.faults in (
+      subst P a.log_faults h.0,
+      h.1 ∙ a.console_faults,
+      h.2 ∙ a.input_faults,
+    )
 broke-then o o' p q r NoMemory a h = tt
 
 pub begun-goes : (o o' : Debt) (p q r : Stand) (x : Result (Unit {0}) Break) → Begun o o' p q

@@ -9,9 +9,11 @@ pub mod Falling
 pub mod Running
 pub mod Idling
 pub mod Endings
+pub mod Silence
 pub mod Rounding
 pub mod Wholes
 pub mod Knowing
 pub mod Limits
 pub mod Following
 pub mod Closing
+pub mod Replayable

@@ -128,7 +128,7 @@ window-silent : (g k : State) (b : Bool) → (if b then some_state (ended g 3 0)
 window-silent g k true e = subst (λ (z : State). z.devices.uart ≡ g.devices.uart) (some_is (ended g 3 0) k e) refl
 window-silent g k false e = absurd cc
 
-levels-silent : (P : Line → Type 0) (o : Option State) (h : State) → with_levels o ≡ Some h
+pub levels-silent : (P : Line → Type 0) (o : Option State) (h : State) → with_levels o ≡ Some h
     → ((k : State) → o ≡ Some k → P k.devices.uart) → P h.devices.uart
 unfolding levels
 levels-silent P None h e all = absurd cc

@@ -9,6 +9,7 @@ use Rattle.event_log.specs.declared.event.Event.{Event}
 use Rattle.event_log.specs.declared.event.Event.TheVariants as event
 use Rattle.event_log.specs.Spelling.{text, IsEvent}
 use Rattle.io_workers.specs.Intake.{Intake, Progress, intake, Gives, Ends}
+use Rattle.uart16550.specs.Line.{Line}
 use Rattle.board.specs.State.{State}
 use Rattle.board.specs.Runs.{step, after}
 use Rattle.board.specs.Answers.{Counts, IsDue}
@@ -24,14 +25,16 @@ use Rattle.rr_engine.specs.declared.recorder.Recorder.{Recorder}
 use Rattle.rr_engine.specs.Input.{Entire, Owed, Paid, unread}
 use Rattle.rr_engine.specs.Stand.{Stand, Devices, stand}
 use Rattle.rr_engine.specs.Work.{work, work_left}
+use Rattle.rr_engine.specs.Rounds.{left_at, GoesOn, Rounds}
 use Rattle.rr_engine.specs.Recording.{Recorded, Goes, Enters, Notes, Shows, IsOwed, IsOwn, IsOwnEnd, EndsByItself, Rests, clock_value}
 use Rattle.rr_engine.proofs.Hearing.{ends-flag, ends-over, ends-read, ends-heard, ends-faults, ends-count, gives-heard}
 use Rattle.rr_engine.proofs.Joining.{begun-goes, run-none, appended-none, gave-none}
 use Rattle.rr_engine.proofs.Owing.{owes_end}
 use Rattle.rr_engine.proofs.Stopping.{shown, shown-machine, due-without}
 use Rattle.rr_engine.proofs.Falling.{step-falls}
-use Rattle.rr_engine.proofs.Endings.{step-own, goes-on}
-use Rattle.rr_engine.proofs.Idling.{IsInner, inner-idle, inner-going, end-idle, end-ended, wakeless, after-idle, open-parts, types}
+use Rattle.rr_engine.proofs.Endings.{step-own, goes-on, ended-own}
+use Rattle.rr_engine.proofs.Idling.{IsInner, inner-own, inner-plain, inner-idle, inner-going, end-idle, end-ended, wakeless, after-idle, after-shut, open-parts, types}
+use Rattle.rr_engine.proofs.Silence.{inner-uart}
 use Rattle.rr_engine.proofs.Entering.{entered, unentered, out-of-memory, rest-of, had, had-piece, IsPlain, plain-leaves, plain-heard}
 
 pub entered-step : (p q : Stand) (e : Event) (x : Result (Unit {0}) Break) → Enters p q e x → OnOk x (step p.machine e ≡ Some q.machine)
@@ -140,10 +143,6 @@ shown-input p q (Err ConsoleRead) s = absurd s
 shown-input p q (Err LogWrite) s = absurd s
 shown-input p q (Err NoMemory) s = absurd s
 
--- the work left with the input that may come
-abbrev pub left_at : Stand → ℕ
-left_at p = work_left p.machine p.input.progress
-
 left-falls : (p q : Stand) → q.input ≡ p.input → work q.machine < work p.machine → left_at q < left_at p
 unfolding work_left
 left-falls p q same h =
@@ -179,11 +178,15 @@ reason-is r c d e = ap reason_of e
 
 -- a run that goes on, with the input as it was
 rests-on : (p q : Stand) → q.input ≡ p.input → Rests p → q.machine.control.ended ≡ None
-    → (q.machine.control.window ≡ window.Idle false → p.machine.control.window ≡ window.Idle false) → Rests q
-rests-on p q same rests going from =
+    → (q.machine.control.window ≡ window.Idle false → p.machine.control.window ≡ window.Idle false)
+    → (q.machine.control.window ≡ window.Idle false → p.machine.devices.uart.out ≡ []
+    → q.machine.devices.uart.out ≡ [])
+    → Rests q
+rests-on p q same rests going from silence =
     let flag : q.input.progress.ended ≡ p.input.progress.ended = ap (λ (z : Intake). z.progress.ended) same in
     record {
       own = goes-on q.machine going;
+      silent = λ w. silence w (rests.silent (from w));
       idle = λ w. flag ∙ rests.idle (from w);
       wakeless = λ c is. absurd (not-some c (sym going ∙ is));
       over = λ is. subst (λ (z : Intake). IsAtEnd (unread z)) (sym same) (rests.over (sym flag ∙ is));
@@ -195,6 +198,7 @@ rests-shown : (p q : Stand) → q.machine ≡ without_out p.machine → q.input 
 rests-shown p q machine same going rests =
     rests-on p q same rests (ap (λ (z : State). z.control.ended) machine ∙ going)
     (λ w. sym (ap (λ (z : State). z.control.window) machine) ∙ w)
+    (λ w none. ap (λ (z : State). z.devices.uart.out) machine)
 
 -- events that neither opens a window nor end the run
 pub inner-rests : (p q : Stand) (e : Event) (x : Result (Unit {0}) Break) → IsInner e → p.machine.control.ended ≡ None
@@ -205,6 +209,19 @@ inner-rests p q e (Ok done) inner going rests en =
     let same = entered-input p q e (Ok done) en in
     let goes = inner-going e p.machine q.machine inner s going in
     rests-on p q same rests goes (inner-idle e p.machine q.machine inner s)
+    (λ w none. ap (λ (z : Line). z.out) (inner-uart e p.machine q.machine inner s) ∙ none)
+
+-- such an event without a value, which was due
+pub inner-round : (p q : Stand) (e : Event) (x : Result (Unit {0}) Break) → IsEvent e
+    → clock_value e ≡ [] → IsInner e → Counts p.machine.control p.machine.devices.time → GoesOn p
+    → Enters p q e x → Rounds p q x
+inner-round p q e x is none inner counts on en = record {
+  goes = entered-goes p q e x is none (inner-plain e inner) en;
+  works = entered-works p q e x en;
+  left = all-falls p q x (entered-input p q e x en)
+      (entered-falls p q e x (inner-own e inner) counts on.going en);
+  rests = inner-rests p q e x inner on.going on.rests en;
+}
 
 -- END of the machine's own
 pub end-rests : (p q : Stand) (reason code : ℕ) (x : Result (Unit {0}) Break) → p.machine.devices.uart.out ≡ []
@@ -216,8 +233,11 @@ end-rests p q reason code (Ok done) out kind going d rests en =
     let s = entered-step p q e (Ok done) en in
     let same = entered-input p q e (Ok done) en in
     let flag : q.input.progress.ended ≡ p.input.progress.ended = ap (λ (z : Intake). z.progress.ended) same in
+    let own : EndsByItself q.machine = entered-own p q e (Ok done) tt (kind.0, kind.2, out) going en in
     record {
-      own = entered-own p q e (Ok done) tt (kind.0, kind.2, out) going en;
+      own = own;
+      silent = λ w. (ended-own q.machine (record { reason = reason; code = code })
+          (end-ended p.machine q.machine reason code s) own).2;
       idle = λ w. flag ∙ rests.idle (end-idle p.machine q.machine reason code s w);
       wakeless = λ c is. flag ∙ rests.idle (wakeless p.machine reason code d
           (reason-is reason code c (sym (end-ended p.machine q.machine reason code s) ∙ is)));
@@ -238,21 +258,26 @@ conclude-rests p q r reason code x s kind going d rests en =
 
 -- turns
 pub turns-rests : (p q : Stand) (bytes : List ℕ) (x : Result (Unit {0}) Break) (m : State) → Notes (record p { machine = m }) q bytes x
-    → m ≡ after (2 ^ 32 - 1) p.machine → m.control.ended ≡ None → Rests p → OnOk x (Rests q)
-turns-rests p q bytes (Err b) m n ran going rests = tt
-turns-rests p q bytes (Ok done) m n ran going rests =
+    → m ≡ after (2 ^ 32 - 1) p.machine → due p.machine ≡ due_is.Run → m.control.ended ≡ None → Rests p
+    → OnOk x (Rests q)
+turns-rests p q bytes (Err b) m n ran d going rests = tt
+turns-rests p q bytes (Ok done) m n ran d going rests =
     let machine = noted-machine (record p { machine = m }) q bytes (Ok done) n in
     let same = noted-input (record p { machine = m }) q bytes (Ok done) n in
     rests-on p q same rests (ap (λ (z : State). z.control.ended) machine ∙ going)
     (λ w. after-idle (2 ^ 32 - 1) p.machine (sym (ap (λ (z : State). z.control.window) (machine ∙ ran)) ∙ w))
+    (λ w none. absurd (after-shut (2 ^ 32 - 1) p.machine (omega arith) d
+    (sym (ap (λ (z : State). z.control.window) (machine ∙ ran)) ∙ w)))
 
 -- the input's end was answered in a window
 pub over-rests : (p q : Stand) → q.machine ≡ p.machine → takes_input p.machine.control ≡ true
+    → p.machine.devices.uart.out ≡ []
     → Ends p.input q.input → (p.input.progress.ended ≡ true → IsAtEnd (unread p.input)) → Rests q
-over-rests p q machine opens e over =
+over-rests p q machine opens none e over =
     let flag = ends-flag p.input q.input e in
     record {
       own = goes-on q.machine (ap (λ (z : State). z.control.ended) machine ∙ (open-parts p.machine.control.ended p.machine.control.window opens).0);
+      silent = λ w. ap (λ (z : State). z.devices.uart.out) machine ∙ none;
       idle = λ w. flag;
       wakeless = λ c is. flag;
       over = λ is. ends-over p.input q.input e over;
@@ -269,6 +294,7 @@ piece-rests p q piece (Ok done) opens on en =
     ap (λ (z : Intake). z.progress.ended) (entered-input p q e (Ok done) en) ∙ on in
     record {
       own = goes-on q.machine t.going;
+      silent = λ w. absurd (t.used w);
       idle = λ w. absurd (t.used w);
       wakeless = λ c is. absurd (not-some c (sym t.going ∙ is));
       over = λ is. absurd (not-both (sym flag ∙ is));
@@ -334,6 +360,7 @@ conclude-left p q r reason code x s falls en =
 pub clock-rests : (r : Recorder) (d d' : Devices) → d' ≡ record d { gave = d'.gave } → Rests (stand r d) → Rests (stand r d')
 clock-rests r d d' rest rests = subst (λ (z : Devices). Rests (stand r z)) (sym rest) (record {
   own = rests.own;
+  silent = rests.silent;
   idle = rests.idle;
   wakeless = rests.wakeless;
   over = rests.over;

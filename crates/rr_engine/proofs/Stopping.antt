@@ -1,5 +1,5 @@
 -- A recording that is stopped.
-use Rattle.std.proofs.Common.{◌≡◌, ℕ, false, arith, List, [], ◌∷◌, ◌++◌, refl, sym, ap, ◌∙◌, subst, append-nil, inl, inr}
+use Rattle.std.proofs.Common.{◌≡◌, ◌≢◌, ℕ, false, arith, List, [], ◌∷◌, ◌++◌, refl, sym, ap, ◌∙◌, subst, append-nil, inl, inr}
 use Rattle.std.specs.Prelude.{Some, None, Result, Ok, Err}
 use Rattle.std.specs.declared.option.Option.{Option}
 use Rattle.outside.specs.Causes.{Rose, Stood}
@@ -19,10 +19,11 @@ use Rattle.rr_engine.specs.declared.parts.Break.TheVariants.{ConsoleRead, Consol
 use Rattle.io_workers.specs.Intake.{Intake}
 use Rattle.rr_engine.specs.Stand.{Stand}
 use Rattle.rr_engine.specs.Input.{Extent, Entire, Part, Debt, unread, Heard, Read}
-use Rattle.rr_engine.specs.Recording.{clock_value, clock_values, Gave, Recorded, Goes, Notes, Shows, Flushed, Stopped, IsStopped, IsLogged, Stops, Enters, Sent, or_memory}
+use Rattle.rr_engine.specs.Recording.{clock_value, clock_values, Gave, Recorded, Goes, Notes, Shows, Flushed, Stopped, IsStopped, IsLogged, Stops, Enters, Sent, Rests, or_memory}
 use Rattle.rr_engine.proofs.Hearing.{heard-none, read-none}
 use Rattle.rr_engine.proofs.Joining.{some_state, run-none, run-one, run-behind, appended-none, gave-none, Begun}
 use Rattle.rr_engine.proofs.Entering.{rest-of, LeavesInput, leaves-read}
+use Rattle.rr_engine.proofs.Idling.{wakeless}
 
 -- console bytes that were taken stand before
 pub with-taken : (g : State) → with_out g.devices.uart.out (without_out g) ≡ g
@@ -114,6 +115,11 @@ spill-rose : (o : Debt) (p q r : Stand) → Shows p q (Err ConsoleWrite) → Sto
     → Rose p.console_faults r.console_faults
 spill-rose o p q r s stopped =
     subst (λ (z : ℕ). Rose p.console_faults z) (sym stopped.console_faults) s.2
+
+spill-input : (o : Debt) (p q r : Stand) → Shows p q (Err ConsoleWrite) → Stopped o q r
+    → r.input.faults ≡ p.input.faults
+spill-input o p q r s stopped =
+    ap (λ (z : Intake). z.faults) stopped.input ∙ ap (λ (z : Stand). z.input.faults) s.1
 
 -- a count that rose didn't stand
 pub not-both : (before now : ℕ) → Rose before now → Stood before now → ⊥
@@ -278,7 +284,7 @@ failed-stopped o p q e LogWrite is ends none (inr took) =
 -- where the console wasn't shown all, less is known of the stop
 less-stopped : (shown : Extent) (g : State) → IsStopped shown g → IsStopped Part g
 less-stopped shown g (inl ended) = inl ended
-less-stopped shown g (inr owed) = inr (refl, owed.1, owed.2, owed.3, owed.4)
+less-stopped shown g (inr owed) = inr (refl, owed.1, owed.2, owed.3, owed.4, owed.5)
 
 -- the log has all, and the console has a front of the bytes from before
 logged-to : (o : Debt) (shown : Extent) (p r : Stand) (console : Option (List ℕ)) (faults : ℕ)
@@ -310,15 +316,15 @@ logged-to o shown p r console faults t s same = record {
 
 -- all that was held was written, where an END of the machine's own was due
 flushed-logged : (o : Debt) (p q : Stand) (reason code : ℕ) → p.machine.control.ended ≡ None
-    → due p.machine ≡ due_is.End reason code
+    → due p.machine ≡ due_is.End reason code → reason ≢ 1
     → Sent p q p.log.unsent.held (Ok tt) → IsLogged Part o p q
-flushed-logged o p q reason code going owed s = record {
+flushed-logged o p q reason code going owed other s = record {
   events = [];
   bytes = [];
   last = p.machine;
   are = tt;
   runs = run-none p.machine;
-  stopped = inr (refl, going, reason, code, owed);
+  stopped = inr (refl, going, reason, code, owed, other);
   log = subst (Takes p.log.taken q.log.taken) (sym (append-nil p.log.unsent.held)) s.0;
   console = subst (λ (z : Stand). TakesFront p.console z.console []) (sym s.1)
       (TakesFront-none p.console []);
@@ -332,15 +338,18 @@ flushed-logged o p q reason code going owed s = record {
 
 flushed-stops : (o : Debt) (p q : Stand) (reason code : ℕ) (x : Result (Unit {0}) Break)
     → p.machine.control.ended ≡ None
-    → due p.machine ≡ due_is.End reason code → Sent p q p.log.unsent.held x → Stops Part o p q x
-flushed-stops o p q reason code (Ok done) going owed s =
-    (flushed-stopped o p q (sent-flushed p q (Ok done) s), flushed-logged o p q reason code going owed s)
-flushed-stops o p q reason code (Err LogWrite) going owed s =
+    → due p.machine ≡ due_is.End reason code → reason ≢ 1
+    → Sent p q p.log.unsent.held x → Stops Part o p q x
+flushed-stops o p q reason code (Ok done) going owed other s = (
+  flushed-stopped o p q (sent-flushed p q (Ok done) s),
+  flushed-logged o p q reason code going owed other s,
+)
+flushed-stops o p q reason code (Err LogWrite) going owed other s =
     (flushed-stopped o p q (sent-flushed p q (Err LogWrite) s), s.2)
-flushed-stops o p q reason code (Err NoMemory) going owed s = flushed-stopped o p q
+flushed-stops o p q reason code (Err NoMemory) going owed other s = flushed-stopped o p q
     (sent-flushed p q (Err NoMemory) s)
-flushed-stops o p q reason code (Err ConsoleRead) going owed s = absurd s
-flushed-stops o p q reason code (Err ConsoleWrite) going owed s = absurd s
+flushed-stops o p q reason code (Err ConsoleRead) going owed other s = absurd s
+flushed-stops o p q reason code (Err ConsoleWrite) going owed other s = absurd s
 
 -- END 3 was entered, and all that was held was written
 entered-logged : (o : Debt) (p q r : Stand) (e : Event) → IsEvent e → EndsInput e
@@ -419,6 +428,7 @@ spill-goes o shown p q r (Ok done) s stops = (
     spill-rose o p q r s stops.0,
     λ stood. logged-to o shown p r q.console q.console_faults s.0
         (subst (λ (z : Stand). IsLogged shown o z r) s.1 stops.1) stops.0.console,
+    spill-input o p q r s stops.0,
   ),
 )
 spill-goes o shown p q r (Err LogWrite) s stops = (
@@ -428,6 +438,7 @@ spill-goes o shown p q r (Err LogWrite) s stops = (
     λ stood. absurd (not-both p.log.faults r.log.faults
         (subst (λ (z : ℕ). Rose z r.log.faults) (ap (λ (z : Stand). z.log.faults) s.1) stops.1)
         stood),
+    spill-input o p q r s stops.0,
   ),
 )
 spill-goes o shown p q r (Err NoMemory) s stops = (spilled o p q r s stops, tt)
@@ -463,13 +474,22 @@ shown-log p q (Err NoMemory) s = absurd s
 pub due-without : (g : State) → due (without_out g) ≡ due g
 due-without g = sym (due-with g.devices.uart.out (without_out g)) ∙ ap due (with-taken g)
 
+-- a sink fails only where something is to be shown
+shown-some : (p q : Stand) (b : Break) → Shows p q (Err b) → p.machine.devices.uart.out ≢ []
+shown-some p q ConsoleWrite s = s.3
+shown-some p q ConsoleRead s = absurd s
+shown-some p q LogWrite s = absurd s
+shown-some p q NoMemory s = absurd s
+
 -- the console's sink failed before an END of the machine's own
 pub conclusion-spills : (o : Debt) (p q r : Stand) (b c : Break) (x : Result (Unit {0}) Break)
     (reason code : ℕ) → c ≡ or_memory b x → Shows p q (Err b)
-    → p.machine.control.ended ≡ None → due p.machine ≡ due_is.End reason code
+    → p.machine.control.ended ≡ None → due p.machine ≡ due_is.End reason code → Rests p
     → Sent q r q.log.unsent.held x → Goes o p r (Err c)
-conclusion-spills o p q r b c x reason code is s going owed sent =
+conclusion-spills o p q r b c x reason code is s going owed rests sent =
     let machine : q.machine ≡ without_out p.machine = shown-machine p q (Err b) s in
+    let other : reason ≢ 1 =
+    λ one. shown-some p q b s (rests.silent (wakeless p.machine reason code owed one)) in
     spills o Part p q r b c x is s
     (flushed-stops o q r reason code x (ap (λ (z : State). z.control.ended) machine ∙ going)
-    (ap due machine ∙ due-without p.machine ∙ owed) sent)
+    (ap due machine ∙ due-without p.machine ∙ owed) other sent)

@@ -1,5 +1,5 @@
 -- A whole recording: its header, its rounds, and the rest of its log.
-use Rattle.std.proofs.Common.{◌≡◌, ℕ, ◌^◌, true, false, List, [], ◌++◌, ◌≤◌, take, refl, sym, ap, ◌∙◌, subst, inl, inr, append-nil}
+use Rattle.std.proofs.Common.{◌≡◌, ℕ, ◌^◌, true, false, List, [], ◌++◌, take, refl, sym, ap, ◌∙◌, subst, inl, inr, append-nil}
 use Rattle.std.specs.Prelude.{Some, None, Ok, Err}
 use Rattle.std.specs.declared.option.Option.{Option}
 use Rattle.std.specs.Io.KnownBytes.{IsAtEnd}
@@ -23,11 +23,11 @@ use Rattle.rr_engine.specs.declared.parts.Break.{Break}
 use Rattle.rr_engine.specs.declared.parts.Break.TheVariants.{ConsoleRead, ConsoleWrite, LogWrite, NoMemory}
 use Rattle.rr_engine.specs.declared.parts.RunEnd.TheVariants as ends
 use Rattle.rr_engine.specs.Stand.{Stand, Devices}
-use Rattle.rr_engine.specs.Recording.{clock_values, Gave, IsStopped, Recorded, IsLogged, Broke, Goes, Took, Sent, HasOwnEnding, EndsByItself, Rests, end_of}
+use Rattle.rr_engine.specs.Recording.{clock_values, Gave, IsStopped, Recorded, IsLogged, Broke, Goes, Took, Sent, Rests, end_of}
 use Rattle.rr_engine.specs.Input.{Extent, Entire, Part, Paid, unread, Heard, Read}
 use Rattle.rr_engine.specs.Runs.{Came, Front, ToStop, Records}
 use Rattle.rr_engine.proofs.Hearing.{first-heard, all-heard, read-none}
-use Rattle.rr_engine.proofs.Endings.{goes-on}
+use Rattle.rr_engine.proofs.Endings.{goes-on, ended-own}
 use Rattle.rr_engine.proofs.Joining.{run-none, gave-none, goes-then}
 use Rattle.rr_engine.proofs.Stopping.{flushed-stopped, sent-flushed}
 
@@ -77,6 +77,8 @@ no-header p q head LogWrite s = (
   head-front p q head s.0 (ap (λ (z : Stand). z.console) s.1)
       (ap (λ (z : Stand). z.input) s.1) (ap (λ (z : Stand). z.gave) s.1),
   s.2,
+  ap (λ (z : Stand). z.console_faults) s.1,
+  ap (λ (z : Stand). z.input.faults) s.1,
 )
 no-header p q head NoMemory s =
     head-front p q head (subst (λ (z : Stand). TakesFront p.log.taken z.log.taken head) (sym s) (TakesFront-none p.log.taken head))
@@ -88,7 +90,8 @@ no-header p q head ConsoleWrite s = absurd s
 stopped-with : (shown : Extent) (front : List ℕ) (g : State) → IsStopped shown g
     → IsStopped shown (with_out front g)
 stopped-with shown front g (inl ended) = inl ended
-stopped-with shown front g (inr owed) = inr (owed.0, owed.1, owed.2, owed.3, due-with front g ∙ owed.4)
+stopped-with shown front g (inr owed) =
+    inr (owed.0, owed.1, owed.2, owed.3, due-with front g ∙ owed.4, owed.5)
 
 -- bytes that were shown, where no more came after them
 shown-with : (shown : Extent) (a b : Option (List ℕ)) (bytes more : List ℕ)
@@ -142,15 +145,21 @@ broken p w r head ConsoleRead unread_ taken none faults h = (
   h.1.0,
   λ stood. stopped-after Entire p w r head unread_ taken none
       (h.1.1 (subst (λ (z : ℕ). Stood z r.log.faults) (sym faults) stood)),
+  h.1.2,
 )
 broken p w r head ConsoleWrite unread_ taken none faults h = (
   front-after p w r head unread_ taken none h.0,
   h.1.0,
   λ stood. stopped-after Part p w r head unread_ taken none
       (h.1.1 (subst (λ (z : ℕ). Stood z r.log.faults) (sym faults) stood)),
+  h.1.2,
 )
-broken p w r head LogWrite unread_ taken none faults h =
-    (front-after p w r head unread_ taken none h.0, subst (λ (z : ℕ). Rose z r.log.faults) faults h.1)
+broken p w r head LogWrite unread_ taken none faults h = (
+  front-after p w r head unread_ taken none h.0,
+  subst (λ (z : ℕ). Rose z r.log.faults) faults h.1.0,
+  h.1.1,
+  h.1.2,
+)
 broken p w r head NoMemory unread_ taken none faults h = front-after p w r head unread_ taken none h.0
 
 pub run-broken : (p q r : Stand) (head : List ℕ) (b : Break) → p.input.progress.count ≡ 0 → Sent p q head (Ok tt)
@@ -162,7 +171,11 @@ run-broken p q r head b unread_ s none h =
 
 -- the rest of the log wasn't written whole
 sent-broke : (q r : Stand) (bytes : List ℕ) (b : Break) → Sent q r bytes (Err b) → Broke Paid q r b
-sent-broke q r bytes LogWrite s = s.2
+sent-broke q r bytes LogWrite s = (
+  s.2,
+  ap (λ (z : Stand). z.console_faults) s.1,
+  ap (λ (z : Stand). z.input.faults) s.1,
+)
 sent-broke q r bytes NoMemory s = tt
 sent-broke q r bytes ConsoleRead s = absurd s
 sent-broke q r bytes ConsoleWrite s = absurd s
@@ -176,10 +189,6 @@ rest-broken p q r t head b unread_ s none a rest =
     (goes-then Paid q r t (Err b) a (stopped, sent-broke r t r.log.unsent.held b rest))
 
 -- ---- all went well
-
-empty-out : (g : State) (ending : Ending) → g.control.ended ≡ Some ending → EndsByItself g
-    → (ending.reason ≤ 2) × (1 ≤ ending.reason → ending.code ≡ 0) × (g.devices.uart.out ≡ [])
-empty-out g ending e own = subst (λ (z : Option Ending). HasOwnEnding z g.devices.uart.out) e own
 
 whole-log : (a b c d : Option (List ℕ)) (head written held text : List ℕ) → Takes a b head → Takes b c written → Takes c d held
     → written ++ held ≡ text → Takes a d (head ++ text)
@@ -200,7 +209,7 @@ whole-after : (p : Stand) (w : Writer) (r : Stand) (t : Writer) (head : List ℕ
     → Takes r.log.taken t.taken r.log.unsent.held → t.faults ≡ r.log.faults → r.machine.control.ended ≡ Some ending → Rests r
     → Records p.machine head (devices p) (devices (record r { log = t })) (ends.End ending.reason ending.code)
 whole-after p w r t head ending unread_ taken none faults a rest same ended rests =
-    let own_end = empty-out r.machine ending ended rests.own in
+    let own_end = ended-own r.machine ending ended rests.own in
     let stands : a.last ≡ r.machine = a.stands refl in
     let out : a.last.devices.uart.out ≡ [] = ap (λ (z : State). z.devices.uart.out) stands ∙ own_end.2 in (
       record {
@@ -261,6 +270,7 @@ pub starts : (p : Stand) → p.machine.control.ended ≡ None → p.machine.cont
     → p.input.progress ≡ none_given → Rests p
 starts p going shut unread_ = record {
   own = goes-on p.machine going;
+  silent = λ w. absurd (not-idle (sym shut ∙ w));
   idle = λ w. absurd (not-idle (sym shut ∙ w));
   wakeless = λ c is. absurd (not-ended c (sym going ∙ is));
   over = λ is. absurd (not-over (sym (ap (λ (z : Progress). z.ended) unread_) ∙ is));
@@ -288,6 +298,7 @@ unread-count p e = ap (λ (z : Progress). z.count) e
 pub sent-rests : (p q : Stand) (bytes : List ℕ) → Sent p q bytes (Ok tt) → Rests p → Rests q
 sent-rests p q bytes s rests = subst Rests (sym s.1) (record {
   own = rests.own;
+  silent = rests.silent;
   idle = rests.idle;
   wakeless = rests.wakeless;
   over = rests.over;

@@ -2,6 +2,8 @@ pub mod Input
 pub mod Stand
 pub mod Recording
 pub mod Work
+pub mod Rounds
 pub mod Runs
 pub mod Replaying
 pub mod Following
+pub mod Replayable

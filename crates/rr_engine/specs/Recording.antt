@@ -1,5 +1,5 @@
 -- What was recorded from one stand of a recording to another.
-use Rattle.std.specs.Prelude.{◌≡◌, ℕ, true, false, List, [], ◌∷◌, ◌++◌, ◌⊎◌, ◌≤◌, Some, None, Result, Ok, Err}
+use Rattle.std.specs.Prelude.{◌≡◌, ◌≢◌, ℕ, true, false, List, [], ◌∷◌, ◌++◌, ◌⊎◌, ◌≤◌, Some, None, Result, Ok, Err}
 use Rattle.std.specs.declared.option.Option.{Option}
 use Rattle.std.specs.List.{AllByRecursion}
 use Rattle.std.specs.Io.KnownBytes.{IsAtEnd}
@@ -83,12 +83,12 @@ pub record Recorded (extent : Extent) (debt : Debt) (p q : Stand) : Type 0 where
   pub clock : Gave extent p.gave q.gave (clock_values events)
 
 -- END 3 ended the run; or, where the console couldn't be shown all, an END of the machine's own was
--- due
+-- due, other than for want of a wake: before that the console was shown all at the idle checkpoint
 abbrev pub IsStopped : Extent → State → Type 0
 IsStopped shown g =
     (g.control.ended ≡ Some (record { reason = 3; code = 0 }))
     ⊎ ((shown ≡ Part) × (g.control.ended ≡ None)
-    × (reason : ℕ) × (code : ℕ) × (due g ≡ due_is.End reason code))
+    × (reason : ℕ) × (code : ℕ) × (due g ≡ due_is.End reason code) × (reason ≢ 1))
 
 -- The recording was stopped after these events, and the log has them all. The console was shown all
 -- of the bytes, or a front.
@@ -106,15 +106,19 @@ pub record IsLogged (shown : Extent) (debt : Debt) (p q : Stand) : Type 0 where
   pub heard : Heard Part debt (unread p.input) events (unread q.input)
   pub clock : Gave Part p.gave q.gave (clock_values events)
 
--- why it broke off
+-- why it broke off: by the first device that failed; what is then written to the log may fail too
 abbrev pub Broke : Debt → Stand → Stand → Break → Type 0
 Broke debt p q ConsoleRead =
     Rose p.input.faults q.input.faults
     × (Stood p.log.faults q.log.faults → IsLogged Entire debt p q)
+    × (q.console_faults ≡ p.console_faults)
 Broke debt p q ConsoleWrite =
     Rose p.console_faults q.console_faults
     × (Stood p.log.faults q.log.faults → IsLogged Part debt p q)
-Broke debt p q LogWrite = Rose p.log.faults q.log.faults
+    × (q.input.faults ≡ p.input.faults)
+Broke debt p q LogWrite =
+    Rose p.log.faults q.log.faults
+    × (q.console_faults ≡ p.console_faults) × (q.input.faults ≡ p.input.faults)
 Broke debt p q NoMemory = Unit {0}
 
 -- the recording went on, or broke off; at first a window may owe its piece of the input
@@ -140,7 +144,8 @@ Notes p q bytes (Err NoMemory) = q ≡ p
 Notes p q bytes (Err ConsoleRead) = ⊥
 Notes p q bytes (Err ConsoleWrite) = ⊥
 
--- the console took the bytes that weren't taken yet, or its sink failed; nothing else changed
+-- the console took the bytes that weren't taken yet, or its sink failed where some are; nothing
+-- else changed
 abbrev pub Shows : Stand → Stand → Result (Unit {0}) Break → Type 0
 Shows p q (Ok done) =
     Takes p.console q.console p.machine.devices.uart.out
@@ -153,6 +158,7 @@ Shows p q (Err ConsoleWrite) =
       console_faults = q.console_faults;
     })
     × Rose p.console_faults q.console_faults
+    × (p.machine.devices.uart.out ≢ [])
 Shows p q (Err other) = ⊥
 
 -- what was held of the log was written, or a front of it; nothing else changed
@@ -210,9 +216,11 @@ abbrev pub EndsByItself : State → Type 0
 EndsByItself g = HasOwnEnding g.control.ended g.devices.uart.out
 
 -- A recording that may go on, or ended by itself. An idle window that had no event stands only
--- where the input's end was answered, and so does an end for want of a wake.
+-- where the console has all bytes and the input's end was answered, and so does an end for want of a
+-- wake.
 pub record Rests (p : Stand) : Type 0 where
   pub own : EndsByItself p.machine
+  pub silent : p.machine.control.window ≡ window.Idle false → p.machine.devices.uart.out ≡ []
   pub idle : p.machine.control.window ≡ window.Idle false → p.input.progress.ended ≡ true
   pub wakeless : (code : ℕ)
       → p.machine.control.ended ≡ Some (record { reason = 1; code = code })

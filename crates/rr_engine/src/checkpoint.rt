@@ -1,14 +1,14 @@
 //! Checkpoints and the end: the console is written there, and read at checkpoints.
 
-ghost use Rattle.std.specs.Prelude.{◌≡◌, ◌<◌, ◌≤◌, OnOk, None, [], false, true, if◌then◌else◌};
+ghost use Rattle.std.specs.Prelude.{◌≡◌, [], false, true, if◌then◌else◌};
 ghost use Rattle.std.specs.Io.KnownBytes.{IsAtEnd};
 ghost use Rattle.board.specs.Accept.{takes_input};
 ghost use Rattle.board.specs.Answers.{Counts, IsDue};
 ghost use Rattle.board.specs.Due.{due};
 ghost use Rattle.rr_engine.specs.Stand.{stand};
-ghost use Rattle.rr_engine.specs.Input.{Entire, Owed, Paid, unread};
-ghost use Rattle.rr_engine.specs.Recording.{Goes, Rests, Stops};
-ghost use Rattle.rr_engine.specs.Work.{work_left};
+ghost use Rattle.rr_engine.specs.Input.{Entire, Owed, unread};
+ghost use Rattle.rr_engine.specs.Recording.{Stops};
+ghost use Rattle.rr_engine.specs.Rounds.{GoesOn, Rounds, Fills};
 
 use crate::parts::{Break, RecordParts};
 use crate::recorder::Recorder;
@@ -26,17 +26,10 @@ impl Recorder {
         idle: bool,
         parts: &mut RecordParts<S, K, C>,
     ) -> Result<(), Break>
-        requires works { self.old.log.failed ≡ false }
         requires due { due self.old.machine ≡ (if idle then Due.Idle else Due.Slice) }
-        requires going { self.old.machine.control.ended ≡ None }
         requires counts { Counts self.old.machine.control self.old.machine.devices.time }
-        requires rests { Rests (stand self.old parts.old) }
-        ensures goes { Goes Paid (stand self.old parts.old)
-            (stand self.new parts.new) result }
-        ensures works { OnOk result (self.new.log.failed ≡ false) }
-        ensures progress { OnOk result (work_left self.new.machine self.new.pieces
-            < work_left self.old.machine self.old.pieces) }
-        ensures rests { OnOk result (Rests (stand self.new parts.new)) }
+        requires on { GoesOn (stand self.old parts.old) }
+        ensures { Rounds (stand self.old parts.old) (stand self.new parts.new) result }
     {
         match self.enter(alloc, Event::Checkpoint { idle }, parts) {
             Ok(()) => self.show(alloc, parts),
@@ -55,12 +48,7 @@ impl Recorder {
         requires open { takes_input self.old.machine.control ≡ true }
         requires over { self.old.pieces.ended ≡ true
             → IsAtEnd (unread (stand self.old parts.old).input) }
-        ensures goes { Goes Owed (stand self.old parts.old)
-            (stand self.new parts.new) result }
-        ensures works { OnOk result (self.new.log.failed ≡ false) }
-        ensures progress { OnOk result (work_left self.new.machine self.new.pieces
-            ≤ work_left self.old.machine self.old.pieces) }
-        ensures rests { OnOk result (Rests (stand self.new parts.new)) }
+        ensures { Fills (stand self.old parts.old) (stand self.new parts.new) result }
     {
         match self.write_out(alloc, parts) {
             Ok(()) => self.listen(alloc, parts),
@@ -80,12 +68,7 @@ impl Recorder {
         requires silent { self.old.machine.devices.uart.out ≡ [] }
         requires over { self.old.pieces.ended ≡ true
             → IsAtEnd (unread (stand self.old parts.old).input) }
-        ensures goes { Goes Owed (stand self.old parts.old)
-            (stand self.new parts.new) result }
-        ensures works { OnOk result (self.new.log.failed ≡ false) }
-        ensures progress { OnOk result (work_left self.new.machine self.new.pieces
-            ≤ work_left self.old.machine self.old.pieces) }
-        ensures rests { OnOk result (Rests (stand self.new parts.new)) }
+        ensures { Fills (stand self.old parts.old) (stand self.new parts.new) result }
     {
         match parts.next_piece(alloc, &mut self.pieces) {
             Ok(Some(bytes)) => self.enter(alloc, Event::CharRead(bytes), parts),
@@ -124,18 +107,11 @@ impl Recorder {
         code: u32,
         parts: &mut RecordParts<S, K, C>,
     ) -> Result<(), Break>
-        requires works { self.old.log.failed ≡ false }
         requires due { due self.old.machine ≡ Due.End reason code }
         requires kind { IsDue self.old.machine.control false (Due.End reason code) }
-        requires going { self.old.machine.control.ended ≡ None }
         requires counts { Counts self.old.machine.control self.old.machine.devices.time }
-        requires rests { Rests (stand self.old parts.old) }
-        ensures goes { Goes Paid (stand self.old parts.old)
-            (stand self.new parts.new) result }
-        ensures works { OnOk result (self.new.log.failed ≡ false) }
-        ensures progress { OnOk result (work_left self.new.machine self.new.pieces
-            < work_left self.old.machine self.old.pieces) }
-        ensures rests { OnOk result (Rests (stand self.new parts.new)) }
+        requires on { GoesOn (stand self.old parts.old) }
+        ensures { Rounds (stand self.old parts.old) (stand self.new parts.new) result }
     {
         match self.write_out(alloc, parts) {
             Ok(()) => self.enter(alloc, Event::End { reason, code }, parts),

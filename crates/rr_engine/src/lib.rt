@@ -2,6 +2,7 @@
 #![tactic(auto)]
 
 mod checkpoint;
+mod laws;
 mod parts;
 mod recorder;
 mod recording;
@@ -11,6 +12,7 @@ mod rounds;
 #[cfg(test)]
 mod tests;
 
+pub use laws::recorded_log_is_replayable;
 pub use parts::{RecordParts, RunEnd};
 pub use recording::record_one;
 pub use replaying::{ReplayEnd, replay_one};

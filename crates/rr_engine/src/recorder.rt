@@ -74,6 +74,9 @@ impl Recorder {
             (stand self.new parts.new) result }
     {
         let out = self.machine.take_out();
+        if out.is_empty() {
+            return Ok(());
+        }
         match parts.out.put_all(&out) {
             Ok(()) => Ok(()),
             Err(_) => Err(Break::ConsoleWrite),

@@ -1,12 +1,12 @@
 //! What is due, round after round.
 
-ghost use Rattle.std.specs.Prelude.{◌≡◌, ◌<◌, OnOk, None, IsSome, false};
+ghost use Rattle.std.specs.Prelude.{◌≡◌, OnOk, IsSome, false};
 ghost use Rattle.board.specs.Due.{due};
 ghost use Rattle.board.specs.Answers.{Counts};
 ghost use Rattle.rr_engine.specs.Input.{Paid};
 ghost use Rattle.rr_engine.specs.Stand.{stand};
 ghost use Rattle.rr_engine.specs.Recording.{Goes, Rests};
-ghost use Rattle.rr_engine.specs.Work.{work_left};
+ghost use Rattle.rr_engine.specs.Rounds.{GoesOn, Rounds};
 
 use crate::parts::{Break, RecordParts};
 use crate::recorder::Recorder;
@@ -24,17 +24,10 @@ impl Recorder {
         parts: &mut RecordParts<S, K, C>,
         steps: &mut Steps<L>,
     ) -> Result<(), Break>
-        requires works { self.old.log.failed ≡ false }
         requires due { due self.old.machine ≡ Due.Run }
-        requires going { self.old.machine.control.ended ≡ None }
         requires counts { Counts self.old.machine.control self.old.machine.devices.time }
-        requires rests { Rests (stand self.old parts.old) }
-        ensures goes { Goes Paid (stand self.old parts.old)
-            (stand self.new parts.new) result }
-        ensures works { OnOk result (self.new.log.failed ≡ false) }
-        ensures progress { OnOk result (work_left self.new.machine self.new.pieces
-            < work_left self.old.machine self.old.pieces) }
-        ensures rests { OnOk result (Rests (stand self.new parts.new)) }
+        requires on { GoesOn (stand self.old parts.old) }
+        ensures { Rounds (stand self.old parts.old) (stand self.new parts.new) result }
     {
         match self.machine.run(u32::MAX, steps) {
             Ok(count) => self.note(alloc, Event::Instruction(count), parts),
@@ -48,17 +41,10 @@ impl Recorder {
         alloc: Global,
         parts: &mut RecordParts<S, K, C>,
     ) -> Result<(), Break>
-        requires works { self.old.log.failed ≡ false }
         requires due { due self.old.machine ≡ Due.Clock }
-        requires going { self.old.machine.control.ended ≡ None }
         requires counts { Counts self.old.machine.control self.old.machine.devices.time }
-        requires rests { Rests (stand self.old parts.old) }
-        ensures goes { Goes Paid (stand self.old parts.old)
-            (stand self.new parts.new) result }
-        ensures works { OnOk result (self.new.log.failed ≡ false) }
-        ensures progress { OnOk result (work_left self.new.machine self.new.pieces
-            < work_left self.old.machine self.old.pieces) }
-        ensures rests { OnOk result (Rests (stand self.new parts.new)) }
+        requires on { GoesOn (stand self.old parts.old) }
+        ensures { Rounds (stand self.old parts.old) (stand self.new parts.new) result }
     {
         let value = parts.now();
         self.enter(alloc, Event::Clock(value), parts)
@@ -71,15 +57,8 @@ impl Recorder {
         parts: &mut RecordParts<S, K, C>,
         steps: &mut Steps<L>,
     ) -> Result<(), Break>
-        requires works { self.old.log.failed ≡ false }
-        requires going { self.old.machine.control.ended ≡ None }
-        requires rests { Rests (stand self.old parts.old) }
-        ensures goes { Goes Paid (stand self.old parts.old)
-            (stand self.new parts.new) result }
-        ensures works { OnOk result (self.new.log.failed ≡ false) }
-        ensures progress { OnOk result (work_left self.new.machine self.new.pieces
-            < work_left self.old.machine self.old.pieces) }
-        ensures rests { OnOk result (Rests (stand self.new parts.new)) }
+        requires { GoesOn (stand self.old parts.old) }
+        ensures { Rounds (stand self.old parts.old) (stand self.new parts.new) result }
     {
         match self.machine.due() {
             Due::Run => self.turns(alloc, parts, steps),
@@ -100,9 +79,7 @@ impl Recorder {
         parts: &mut RecordParts<S, K, C>,
         steps: &mut Steps<L>,
     ) -> Result<(), Break>
-        requires works { self.old.log.failed ≡ false }
-        requires going { self.old.machine.control.ended ≡ None }
-        requires rests { Rests (stand self.old parts.old) }
+        requires { GoesOn (stand self.old parts.old) }
         ensures goes { Goes Paid (stand self.old parts.old)
             (stand self.new parts.new) result }
         ensures works { OnOk result (self.new.log.failed ≡ false) }

@@ -11,29 +11,28 @@ enter-requires-clause-owed g c = owes_checkpoint c.args.self.now.machine c.args.
 
 pub show-requires-clause-open : goal.show-requires-clause-open
 show-requires-clause-open g c =
-    checkpoint-opens c.args.self.now.machine _ c.args.idle c.requires.going
+    checkpoint-opens c.args.self.now.machine _ c.args.idle c.requires.on.going
     (entered-step (stand c.args.self.now c.args.parts.now) _ _ _ c.in-Ok.ensures)
 
 pub show-requires-clause-over : goal.show-requires-clause-over
 show-requires-clause-over g c =
     opened-over (stand c.args.self.now c.args.parts.now) (stand c.enter.new.self c.enter.new.parts) _ _ c.in-Ok.ensures
-    c.requires.rests.over
+    c.requires.on.rests.over
 
-pub returns-in-Ok-clause-goes : goal.returns-in-Ok-clause-goes
-returns-in-Ok-clause-goes g c =
+pub returns-in-Ok : goal.returns-in-Ok
+returns-in-Ok g c =
     let p = stand c.args.self.now c.args.parts.now in
     let q = stand c.enter.new.self c.enter.new.parts in
-    begun-goes Paid Owed p q _ _ (opened p q c.args.idle c.in-Ok.ensures) c.show.ensures.goes
+    record {
+      goes = begun-goes Paid Owed p q _ _ (opened p q c.args.idle c.in-Ok.ensures) c.show.ensures.goes;
+      works = c.show.ensures.works;
+      left = opened-left p q _ _ _ c.in-Ok.ensures
+          (entered-falls p q _ _ tt c.requires.counts c.requires.on.going c.in-Ok.ensures) c.show.ensures.left;
+      rests = c.show.ensures.rests;
+    }
 
-pub returns-in-Ok-clause-progress : goal.returns-in-Ok-clause-progress
-returns-in-Ok-clause-progress g c =
+pub returns-in-Err : goal.returns-in-Err
+returns-in-Err g c =
     let p = stand c.args.self.now c.args.parts.now in
     let q = stand c.enter.new.self c.enter.new.parts in
-    opened-left p q _ _ _ c.in-Ok.ensures
-    (entered-falls p q _ _ tt c.requires.counts c.requires.going c.in-Ok.ensures) c.show.ensures.progress
-
-pub returns-in-Err-clause-goes : goal.returns-in-Err-clause-goes
-returns-in-Err-clause-goes g c =
-    let p = stand c.args.self.now c.args.parts.now in
-    let q = stand c.enter.new.self c.enter.new.parts in
-    unopened p q c.args.idle _ c.in-Err.ensures
+    record { goes = unopened p q c.args.idle _ c.in-Err.ensures; works = tt; left = tt; rests = tt }

@@ -1,27 +1,24 @@
 use Rattle.std.proofs.Common.{arith}
 use Rattle.rr_engine.specs.Stand.{stand}
 use Rattle.rr_engine.proofs.Owing.{owes_clock}
-use Rattle.rr_engine.proofs.Rounding.{clock-goes, clock-rests, entered-falls, all-falls, inner-rests, entered-input}
+use Rattle.rr_engine.proofs.Rounding.{clock-goes, clock-rests, entered-works, entered-falls, all-falls, inner-rests, entered-input}
 use Rattle.rr_engine.proofs.recorder.Recorder.clock.Goals as goal
 
 pub enter-requires-clause-owed : goal.enter-requires-clause-owed
 enter-requires-clause-owed g c = owes_clock c.args.self.now.machine c.now-value.result (omega arith) c.requires.due
 
-pub returns-clause-goes : goal.returns-clause-goes
-returns-clause-goes g c =
-    clock-goes c.args.self.now c.args.parts.now c.now-value.new.self _ c.now-value.result _
-    c.now-value.ensures.rest c.now-value.ensures.value (omega arith) c.enter.ensures
-
-pub returns-clause-progress : goal.returns-clause-progress
-returns-clause-progress g c =
+pub returns : goal.returns
+returns g c =
     let p = stand c.args.self.now c.now-value.new.self in
     let q = stand c.enter.new.self c.enter.new.parts in
-    all-falls p q _ (entered-input p q _ _ c.enter.ensures)
-    (entered-falls p q _ _ tt c.requires.counts c.requires.going c.enter.ensures)
-
-pub returns-clause-rests : goal.returns-clause-rests
-returns-clause-rests g c =
-    let p = stand c.args.self.now c.now-value.new.self in
-    inner-rests p _ _ _ tt c.requires.going
-    (clock-rests c.args.self.now c.args.parts.now c.now-value.new.self c.now-value.ensures.rest c.requires.rests)
-    c.enter.ensures
+    record {
+      goes = clock-goes c.args.self.now c.args.parts.now c.now-value.new.self _ c.now-value.result _
+          c.now-value.ensures.rest c.now-value.ensures.value (omega arith) c.enter.ensures;
+      works = entered-works p q _ _ c.enter.ensures;
+      left = all-falls p q _ (entered-input p q _ _ c.enter.ensures)
+          (entered-falls p q _ _ tt c.requires.counts c.requires.on.going c.enter.ensures);
+      rests = inner-rests p _ _ _ tt c.requires.on.going
+          (clock-rests c.args.self.now c.args.parts.now c.now-value.new.self c.now-value.ensures.rest
+          c.requires.on.rests)
+          c.enter.ensures;
+    }

@@ -1,6 +1,6 @@
-use Rattle.std.proofs.Common.{sym}
+use Rattle.std.proofs.Common.{sym, ap, ◌∙◌}
 use Rattle.event_log.specs.HeaderFormat.{header_text}
-use Rattle.rr_engine.specs.Stand.{stand}
+use Rattle.rr_engine.specs.Stand.{Stand, stand}
 use Rattle.rr_engine.proofs.Wholes.{no-header, run-broken, rest-broken, run-whole, unread-count, starts, sent-rests}
 use Rattle.rr_engine.proofs.recorder.Recorder.record.Goals as goal
 
@@ -32,8 +32,14 @@ returns g c =
     (stand c.finish.new.self c.finish.new.parts) (header_text c.args.header.now) c.in-Some.ending
     (unread-count _ c.requires.unread) c.in-Ok.ensures.sent c.in-Ok.ensures.held c.in-Ok-run.ensures.goes c.in-Ok-finish.ensures (sym c.in-Some.ensures) c.in-Ok-run.ensures.rests
 
-pub run-requires-clause-rests : goal.run-requires-clause-rests
-run-requires-clause-rests g c =
-    sent-rests (stand c.args.self.now c.args.parts.now) (stand c.begin.new.self c.begin.new.parts) (header_text c.args.header.now)
-    c.in-Ok.ensures.sent
-    (starts (stand c.args.self.now c.args.parts.now) c.requires.going c.requires.shut c.requires.unread)
+pub run-requires : goal.run-requires
+run-requires g c =
+    let p = stand c.args.self.now c.args.parts.now in
+    let q = stand c.begin.new.self c.begin.new.parts in
+    let sent = c.in-Ok.ensures.sent in
+    record {
+      works = sent.3;
+      going = ap (λ (z : Stand). z.machine.control.ended) sent.1 ∙ c.requires.going;
+      rests = sent-rests p q (header_text c.args.header.now) sent
+          (starts p c.requires.going c.requires.shut c.requires.unread);
+    }

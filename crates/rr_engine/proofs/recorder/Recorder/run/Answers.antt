@@ -1,3 +1,4 @@
+use Rattle.std.proofs.Common.{rules}
 use Rattle.std.specs.Prelude.{Err}
 use Rattle.rr_engine.specs.Input.{Entire, Paid}
 use Rattle.rr_engine.specs.Stand.{stand}
@@ -9,6 +10,13 @@ rounds-init g c = record {
   recorded = recorded-none (stand c.args.self.now c.args.parts.now) c.requires.works;
   works = c.requires.works;
   rests = c.requires.rests;
+}
+
+pub round-requires : goal.round-requires
+round-requires g c = record {
+  works = c.rounds.invariant.works;
+  going = search rules;
+  rests = c.rounds.invariant.rests;
 }
 
 pub rounds-preserved : goal.rounds-preserved

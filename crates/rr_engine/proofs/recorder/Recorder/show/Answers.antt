@@ -21,17 +21,17 @@ listen-requires-clause-over g c =
     shown-over (stand c.args.self.now c.args.parts.now) (stand c.write_out.new.self c.write_out.new.parts) (Ok tt)
     c.in-Ok.ensures.shows c.requires.over
 
-pub returns-in-Ok-clause-goes : goal.returns-in-Ok-clause-goes
-returns-in-Ok-clause-goes g c =
+pub returns-in-Ok : goal.returns-in-Ok
+returns-in-Ok g c =
     let p = stand c.args.self.now c.args.parts.now in
     let q = stand c.write_out.new.self c.write_out.new.parts in
-    begun-goes Owed Owed p q _ _ (shown Owed p q c.requires.works c.in-Ok.ensures.shows)
-    c.listen.ensures.goes
-
-pub returns-in-Ok-clause-progress : goal.returns-in-Ok-clause-progress
-returns-in-Ok-clause-progress g c =
-    shown-left (stand c.args.self.now c.args.parts.now) (stand c.write_out.new.self c.write_out.new.parts) _ _
-    c.in-Ok.ensures.shows c.listen.ensures.progress
+    record {
+      goes = begun-goes Owed Owed p q _ _ (shown Owed p q c.requires.works c.in-Ok.ensures.shows)
+          c.listen.ensures.goes;
+      works = c.listen.ensures.works;
+      left = shown-left p q _ _ c.in-Ok.ensures.shows c.listen.ensures.left;
+      rests = c.listen.ensures.rests;
+    }
 
 pub stop-requires-clause-open : goal.stop-requires-clause-open
 stop-requires-clause-open g c =
@@ -43,8 +43,12 @@ stop-requires-clause-silent g c =
     shown-silent (stand c.args.self.now c.args.parts.now) (stand c.write_out.new.self c.write_out.new.parts) (Err c.in-Err.broke)
     c.in-Err.ensures.shows
 
-pub returns-in-Err-clause-goes : goal.returns-in-Err-clause-goes
-returns-in-Err-clause-goes g c =
-    spills Owed Entire (stand c.args.self.now c.args.parts.now)
-    (stand c.write_out.new.self c.write_out.new.parts) _ _ _ _
-    c.or_memory.ensures c.in-Err.ensures.shows c.stop.ensures
+pub returns-in-Err : goal.returns-in-Err
+returns-in-Err g c = record {
+  goes = spills Owed Entire (stand c.args.self.now c.args.parts.now)
+      (stand c.write_out.new.self c.write_out.new.parts) _ _ _ _
+      c.or_memory.ensures c.in-Err.ensures.shows c.stop.ensures;
+  works = tt;
+  left = tt;
+  rests = tt;
+}
