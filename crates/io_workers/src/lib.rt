@@ -1,4 +1,5 @@
-//! What a machine reads of the outside while it runs: the bytes of its console, in pieces.
+//! What a machine reads of the outside while it runs: the bytes of its console, in pieces, and the
+//! packets of its network.
 //!
 //! ```
 //! let mut chunks = Chunks::new(world.source(Role::ConsoleIn, None)?);
@@ -10,11 +11,15 @@
 #![tactic(auto)]
 
 mod chunks;
+mod frames;
+mod packets;
 mod pieces;
 mod read_error;
 #[cfg(test)]
 mod tests;
 
 pub use chunks::Chunks;
+pub use frames::Frames;
+pub use packets::Packets;
 pub use pieces::Pieces;
 pub use read_error::ReadError;
