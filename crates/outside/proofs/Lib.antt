@@ -1,4 +1,4 @@
 pub mod ToldLemmas
+pub mod OpeningLemmas
 pub mod Fronts
 mod ClockLemmas
-mod RoleLemmas

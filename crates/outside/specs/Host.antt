@@ -9,7 +9,7 @@ use Rattle.outside.specs.declared.host_world.HostWorld.{HostWorld}
 use Rattle.outside.specs.declared.host_world.HostSource.TheVariants as source
 use Rattle.outside.specs.declared.host_world.HostSink.TheVariants as sink
 use Rattle.outside.specs.declared.host_world.HostImage.TheVariants as image
-use Rattle.outside.specs.Roles.{same, each}
+use Rattle.outside.specs.Roles.{same}
 use Rattle.outside.specs.Ledger.{Ledger}
 
 -- a source tells nothing, unless it has nothing
@@ -59,7 +59,9 @@ host_ledger w = record {
   clocks_returned = w.counters.clocks_returned;
   names = λ name. None;
   input = None;
-  sinks = each (λ n. option_map string_bytes n) w.counters.sinks;
+  openings = w.counters.openings;
+  refused = w.counters.refused;
+  left = w.counters.left;
   last = same None;
   clock = None;
 }

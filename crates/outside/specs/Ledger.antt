@@ -1,9 +1,11 @@
 -- What a world tells of itself: its counts, the devices opened and given back, and what it holds.
-use Rattle.std.specs.Prelude.{◌≡◌, ℕ, List, [], None, Some, ⊤}
+use Rattle.std.specs.Prelude.{◌≡◌, ℕ, List, [], ◌∷◌, None, Some, ⊤}
 use Rattle.std.specs.declared.option.Option.{Option}
 use Rattle.outside.specs.declared.roles.Role.{Role}
 use Rattle.outside.specs.declared.roles.Role.TheVariants.{ConsoleIn}
 use Rattle.outside.specs.declared.roles.PerRole.{PerRole}
+use Rattle.outside.specs.declared.openings.Opening.{Opening}
+use Rattle.outside.specs.declared.openings.Opening.TheVariants.{Source, Sink, Disk, Clock}
 use Rattle.outside.specs.Roles.{at, put, same}
 use Rattle.outside.specs.Causes.{one_more, both}
 
@@ -23,9 +25,12 @@ pub record Ledger : Type 0 where
   -- the bytes that a name holds, and those of standard input
   pub names : List ℕ → Option (List ℕ)
   pub input : Option (List ℕ)
-  -- the name under which the last sink of a role was opened
-  pub sinks : PerRole (Option (List ℕ))
-  -- what the sink of a role last given back had taken, and what the clock given back had given
+  -- all openings, and those that failed, the latest first
+  pub openings : List Opening
+  pub refused : List Opening
+  -- what the source of a role last given back had left, what the sink last given back had taken,
+  -- and what the clock given back had given
+  pub left : PerRole (Option (List ℕ))
   pub last : PerRole (Option (List ℕ))
   pub clock : Option (List ℕ)
 
@@ -40,26 +45,33 @@ abbrev pub image_held : Ledger → Option (List ℕ) → Option (List ℕ)
 image_held l (Some name) = l.names name
 image_held l None = Some []
 
--- a source of the role was opened
-abbrev pub opens : Ledger → Role → Ledger
-opens l role = record l { opened = put l.opened role (one_more (at l.opened role)) }
+-- a source of the role was opened, under that name
+abbrev pub opens : Ledger → Role → Option (List ℕ) → Ledger
+opens l role name = record l {
+  opened = put l.opened role (one_more (at l.opened role));
+  openings = Source role name ∷ l.openings;
+}
 
 -- a sink of the role was opened, under that name
 abbrev pub opens_sink : Ledger → Role → Option (List ℕ) → Ledger
 opens_sink l role name = record l {
   opened = put l.opened role (one_more (at l.opened role));
-  sinks = put l.sinks role name;
+  openings = Sink role name ∷ l.openings;
 }
 
--- opening failed
-abbrev pub opening_fails : Ledger → Ledger
-opening_fails l = record l { opening_faults = one_more l.opening_faults }
+-- that opening failed
+abbrev pub opening_fails : Ledger → Opening → Ledger
+opening_fails l opening = record l {
+  opening_faults = one_more l.opening_faults;
+  refused = opening ∷ l.refused;
+}
 
--- a source with that count was given back
-abbrev pub source_back : Ledger → Role → ℕ → Ledger
-source_back l role count = record l {
+-- a source with that count was given back, which had these bytes left
+abbrev pub source_back : Ledger → Role → ℕ → Option (List ℕ) → Ledger
+source_back l role count left = record l {
   faults = put l.faults role (both (at l.faults role) count);
   returned = put l.returned role (one_more (at l.returned role));
+  left = put l.left role left;
 }
 
 -- a sink with that count was given back, which had taken those bytes
@@ -70,9 +82,12 @@ sink_back l role count taken = record l {
   last = put l.last role taken;
 }
 
--- an image was opened
-abbrev pub opens_disk : Ledger → Ledger
-opens_disk l = record l { disks_opened = one_more l.disks_opened }
+-- an image was opened, under that name
+abbrev pub opens_disk : Ledger → Option (List ℕ) → Ledger
+opens_disk l name = record l {
+  disks_opened = one_more l.disks_opened;
+  openings = Disk name ∷ l.openings;
+}
 
 -- an image with that count was given back
 abbrev pub disk_back : Ledger → ℕ → Ledger
@@ -83,7 +98,10 @@ disk_back l count = record l {
 
 -- a clock was made
 abbrev pub opens_clock : Ledger → Ledger
-opens_clock l = record l { clocks_opened = one_more l.clocks_opened }
+opens_clock l = record l {
+  clocks_opened = one_more l.clocks_opened;
+  openings = Clock ∷ l.openings;
+}
 
 -- a clock was given back, which had given those values
 abbrev pub clock_back : Ledger → Option (List ℕ) → Ledger
@@ -105,6 +123,8 @@ pub record IsNew (l : Ledger) : Type 0 where
   pub disks_returned : l.disks_returned ≡ 0
   pub clocks_opened : l.clocks_opened ≡ 0
   pub clocks_returned : l.clocks_returned ≡ 0
+  pub openings : l.openings ≡ []
+  pub refused : l.refused ≡ []
 
 -- a length that is known stays
 abbrev pub KeepsSizes : (List ℕ → Option ℕ) → (List ℕ → Option ℕ) → Type 0

@@ -1,6 +1,8 @@
 pub mod Causes
 pub mod Told
 pub mod Roles
+pub mod Past
+pub mod Openings
 pub mod Ledger
 pub mod Fakes
 pub mod MemWorlds

@@ -32,7 +32,9 @@ mem_ledger w = record {
   clocks_returned = w.counters.clocks_returned;
   names = λ name. bytes_of w.files.items name;
   input = Some w.input.items;
-  sinks = each (λ n. option_map string_bytes n) w.counters.sinks;
+  openings = w.counters.openings;
+  refused = w.counters.refused;
+  left = w.counters.left;
   last = each (λ v. Some v.items) w.last;
   clock = clock_gave w.last_clock;
 }

@@ -3,10 +3,39 @@ ghost use Rattle.std.specs.Prelude.{◌≡◌, ℕ, None, IfOk};
 
 use crate::faults::count_fault;
 use crate::{Failed, Image, Sink, Source};
-use std::fs::File;
+use std::fs::{File, Metadata, OpenOptions};
 use std::io::{Read, Write};
 use std::marker::Model;
-use std::os::unix::fs::FileExt;
+use std::os::unix::fs::{FileExt, MetadataExt};
+
+/// Which file of the host it is, whatever the names that lead to it.
+#[derive(Clone, Copy, Debug, PartialEq, Eq)]
+pub(crate) struct FileId {
+    device: u64,
+    number: u64,
+}
+
+impl FileId {
+    /// The file of this metadata, where it is a regular one.
+    pub(crate) fn of(metadata: &Metadata) -> Option<FileId> {
+        if metadata.is_file() {
+            Some(FileId {
+                device: metadata.dev(),
+                number: metadata.ino(),
+            })
+        } else {
+            None
+        }
+    }
+
+    // The file of an open one, where it is a regular one and the host says which.
+    fn of_open(file: &File) -> Option<FileId> {
+        match file.metadata() {
+            Ok(metadata) => FileId::of(&metadata),
+            Err(_) => None,
+        }
+    }
+}
 
 /// A file that is read from its start. Each error counts. Contracts see it as its count of faults.
 #[derive(Drop)]
@@ -30,6 +59,11 @@ impl FileSource {
             Ok(file) => Ok(FileSource { file, faults: 0 }),
             Err(_) => Err(Failed),
         }
+    }
+
+    /// Which regular file it is.
+    pub(crate) fn id(&self) -> Option<FileId> {
+        FileId::of_open(&self.file)
     }
 
     pub(crate) fn faults(&self) -> u64
@@ -67,13 +101,18 @@ impl Model for FileSink {
 }
 
 impl FileSink {
-    /// Makes a file of that name, or makes the one that is there empty.
-    pub fn create(rt: HostRuntime, name: &str) -> Result<FileSink, Failed>
+    /// Makes a file of that name, or makes the one that is there empty, unless it is one of these.
+    pub(crate) fn create(rt: HostRuntime, name: &str, kept: &[FileId]) -> Result<FileSink, Failed>
         ensures { IfOk result (λ k. k ≡ 0) }
     {
-        match File::create(&rt, name) {
-            Ok(file) => Ok(FileSink { file, faults: 0 }),
-            Err(_) => Err(Failed),
+        let opened = OpenOptions::new().write(true).create(true).open(&rt, name);
+        let Ok(file) = opened else {
+            return Err(Failed);
+        };
+        match FileId::of_open(&file) {
+            Some(id) if kept.contains(&id) => Err(Failed),
+            Some(_) if file.set_len(0).is_err() => Err(Failed),
+            _ => Ok(FileSink { file, faults: 0 }),
         }
     }
 
@@ -130,6 +169,11 @@ impl FileImage {
             }),
             Err(_) => Err(Failed),
         }
+    }
+
+    /// Which regular file it is.
+    pub(crate) fn id(&self) -> Option<FileId> {
+        FileId::of_open(&self.file)
     }
 
     pub(crate) fn faults(&self) -> u64

@@ -1,12 +1,16 @@
 //! The world of a process: files, standard streams and the system's clock. It tells no bytes.
-ghost use Rattle.std.specs.Prelude.{◌≡◌, Some, None, IsErrOf, OnOk, option_map, find, string_bytes};
+ghost use Rattle.std.specs.Prelude.{◌≡◌, ◌∷◌, Some, None, IsErrOf, OnOk, option_map, find, string_bytes};
 ghost use Rattle.std.specs.Str.{bytes_eq};
+ghost use Rattle.outside.specs.declared.openings.Opening.TheVariants as opening;
 ghost use Rattle.outside.specs.Host.{source_left, source_faults, sink_faults, image_content, image_size, image_faults, host_ledger, host_sizes};
 
-use crate::counters::{Counters, kept_name};
+use crate::counters::Counters;
+use crate::files::FileId;
+use crate::past::{Past, told_name};
+use crate::std_streams::{keep_standard_streams, standard_input};
 use crate::{
-    Failed, FileImage, FileSink, FileSource, Image, OpenError, Role, Sink, Source, StdClock,
-    StdSink, StdSource, World,
+    Failed, FileImage, FileSink, FileSource, Image, NoMemory, OpenError, Opening, Role, Sink,
+    Source, StdClock, StdSink, StdSource, World,
 };
 
 /// A source of the host. `Nothing` is at its end, and tells so.
@@ -25,6 +29,15 @@ impl HostSource {
             HostSource::Standard(source) => source.faults(),
             HostSource::File(source) => source.faults(),
             HostSource::Nothing => 0,
+        }
+    }
+
+    fn left(&self) -> Option<Past<u8>>
+        ensures { result ≡ source_left self.now }
+    {
+        match self {
+            HostSource::Standard(_) | HostSource::File(_) => None,
+            HostSource::Nothing => Some(Past::new()),
         }
     }
 }
@@ -125,12 +138,15 @@ struct NamedLength {
 }
 
 /// The world of a process. It tells nothing of names, standard input and devices given back. An
-/// image that is opened again with another length is a fault of opening.
+/// image that is opened again with another length is a fault of opening, and so is a sink in a
+/// regular file that was opened to be read, by whichever name.
 #[derive(Drop)]
 pub struct HostWorld {
     rt: HostRuntime,
     counters: Counters,
     lengths: Vec<NamedLength>,
+    // the regular files that were opened to be read
+    read: Vec<FileId>,
 }
 
 fn length_of(lengths: &[NamedLength], name: &str) -> Option<u64>
@@ -148,28 +164,42 @@ impl HostWorld {
     ghost use Rattle.outside.specs.Causes.{one_more};
     ghost use Rattle.outside.specs.Ledger.{opening_fails, IsNew, KeepsSizes};
 
-    /// The world of this process, where nothing was opened yet.
+    /// The world of this process, where nothing was opened yet. Standard streams that are closed
+    /// are opened on the null device, for as long as the process runs.
     pub fn new(rt: HostRuntime) -> Self
         ensures { IsNew (host_ledger result) }
     {
+        keep_standard_streams(rt);
         HostWorld {
             rt,
             counters: Counters::new(),
             lengths: Vec::new(rt.alloc()),
+            read: Vec::new(rt.alloc()),
         }
     }
 
     // Counts an opening that failed.
-    fn refuse(&mut self) -> OpenError
+    fn refuse(&mut self, opening: Opening) -> OpenError
         ensures answer { result ≡ OpenError.Failed }
         ensures counted { self.new ≡ record self.old {
           counters = record self.old.counters {
             opening_faults = one_more self.old.counters.opening_faults;
+            refused = opening ∷ self.old.counters.refused;
           };
         } }
     {
-        self.counters.opening_failed();
+        self.counters.opening_failed(opening);
         OpenError::Failed
+    }
+
+    // Keeps which file is read, where it is a regular one.
+    fn note_read(&mut self, id: Option<FileId>) -> Result<(), NoMemory>
+        ensures { self.new ≡ record self.old { read = self.new.read } }
+    {
+        if let Some(id) = id {
+            self.read.push(id)?;
+        }
+        Ok(())
     }
 
     // Keeps the length of an image. Where it had another, opening failed.
@@ -177,14 +207,14 @@ impl HostWorld {
         ensures ok { OnOk result (host_ledger self.new ≡ host_ledger self.old) }
         ensures size { OnOk result (host_sizes self.new name.now ≡ Some len) }
         ensures failed { IsErrOf result OpenError.Failed
-            → host_ledger self.new ≡ opening_fails (host_ledger self.old) }
+            → host_ledger self.new ≡ opening_fails (host_ledger self.old) (opening.Disk (Some name.now)) }
         ensures memory { IsErrOf result OpenError.NoMemory
             → host_ledger self.new ≡ host_ledger self.old }
         ensures sizes { KeepsSizes (host_sizes self.old) (host_sizes self.new) }
     {
         match length_of(&self.lengths, name) {
             Some(known) if known == len => Ok(()),
-            Some(_) => Err(self.refuse()),
+            Some(_) => Err(self.refuse(Opening::Disk(told_name(Some(name))))),
             None => {
                 let name = String::from_str(self.rt.alloc(), name)?;
                 match self.lengths.insert(0, NamedLength { name, len }) {
@@ -210,30 +240,40 @@ impl World for HostWorld {
     ghost sizes = { host_sizes };
 
     fn source(&mut self, role: Role, name: Option<&str>) -> Result<HostSource, OpenError> {
-        let source = match (name, role) {
+        let (source, id) = match (name, role) {
             (Some(name), _) => match FileSource::open(self.rt, name) {
-                Ok(source) => HostSource::File(source),
-                Err(Failed) => return Err(self.refuse()),
+                Ok(source) => {
+                    let id = source.id();
+                    (HostSource::File(source), id)
+                }
+                Err(Failed) => {
+                    return Err(self.refuse(Opening::Source(role, told_name(Some(name)))));
+                }
             },
-            (None, Role::ConsoleIn) => HostSource::Standard(StdSource::new(self.rt)),
-            (None, _) => HostSource::Nothing,
+            (None, Role::ConsoleIn) => {
+                let source = StdSource::new(self.rt);
+                (HostSource::Standard(source), standard_input(self.rt))
+            }
+            (None, _) => (HostSource::Nothing, None),
         };
-        self.counters.open(role);
+        self.note_read(id)?;
+        self.counters.open_source(role, name);
         Ok(source)
     }
 
     fn sink(&mut self, role: Role, name: Option<&str>) -> Result<HostSink, OpenError> {
-        let kept = kept_name(self.rt.alloc(), name)?;
         let sink = match (name, role) {
-            (Some(name), _) => match FileSink::create(self.rt, name) {
+            (Some(name), _) => match FileSink::create(self.rt, name, &self.read) {
                 Ok(sink) => HostSink::File(sink),
-                Err(Failed) => return Err(self.refuse()),
+                Err(Failed) => {
+                    return Err(self.refuse(Opening::Sink(role, told_name(Some(name)))));
+                }
             },
             (None, Role::ConsoleOut) => HostSink::Standard(StdSink::output(self.rt)),
             (None, Role::Messages) => HostSink::Standard(StdSink::errors(self.rt)),
             (None, _) => HostSink::Nothing,
         };
-        self.counters.open_sink(role, kept);
+        self.counters.open_sink(role, name);
         Ok(sink)
     }
 
@@ -241,14 +281,15 @@ impl World for HostWorld {
         let image = match name {
             Some(name) => match FileImage::open(self.rt, name) {
                 Ok(image) => {
+                    self.note_read(image.id())?;
                     self.note_length(name, image.len())?;
                     HostImage::File(image)
                 }
-                Err(Failed) => return Err(self.refuse()),
+                Err(Failed) => return Err(self.refuse(Opening::Disk(told_name(Some(name))))),
             },
             None => HostImage::Nothing,
         };
-        self.counters.open_disk();
+        self.counters.open_disk(name);
         Ok(image)
     }
 
@@ -258,7 +299,8 @@ impl World for HostWorld {
     }
 
     fn take_source(&mut self, role: Role, source: HostSource) {
-        self.counters.give_back(role, source.faults());
+        self.counters
+            .give_source_back(role, source.faults(), source.left());
     }
 
     fn take_sink(&mut self, role: Role, sink: HostSink) {

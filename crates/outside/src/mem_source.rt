@@ -41,6 +41,13 @@ impl MemSource {
         }
     }
 
+    /// The bytes that are left.
+    pub(crate) fn left(&self) -> &[u8]
+        ensures { result.now ≡ self.now.left }
+    {
+        self.source.left()
+    }
+
     pub(crate) fn faults(&self) -> u64
         ensures { result ≡ self.now.calls.faults }
     {

@@ -1,11 +1,15 @@
 //! A world in memory, for tests.
-ghost use Rattle.std.specs.Prelude.{◌≡◌, ◌↔◌, [], Some, None, List, ℕ, length, OnOk, OnErr, IfOk, IsSome, IsNone, IsTrue, IsErrOf, find, option_copied, string_bytes, if◌then◌else◌};
+ghost use Rattle.std.specs.Prelude.{◌≡◌, ◌↔◌, [], ◌∷◌, Some, None, List, ℕ, length, OnOk, OnErr, IfOk, IsSome, IsNone, IsTrue, IsErrOf, find, option_copied, string_bytes, if◌then◌else◌};
 ghost use Rattle.std.specs.Str.{bytes_eq};
 ghost use Rattle.outside.specs.Roles.{at, put, same, each};
 ghost use Rattle.outside.specs.Ledger.{IsNew};
+ghost use Rattle.outside.specs.declared.openings.Opening.TheVariants as opening;
 
-use crate::counters::{Counters, kept_name};
-use crate::{ListClock, MemImage, MemSink, MemSource, NoMemory, OpenError, PerRole, Role, World};
+use crate::counters::Counters;
+use crate::past::{told_bytes, told_name};
+use crate::{
+    ListClock, MemImage, MemSink, MemSource, NoMemory, OpenError, Opening, PerRole, Role, World,
+};
 use std::alloc::Global;
 use std::mem;
 
@@ -65,7 +69,7 @@ impl MemWorld {
         ensures new { IsNew (mem_ledger result) }
         ensures names { (name : List ℕ) → (mem_ledger result).names name ≡ None }
         ensures input { (mem_ledger result).input ≡ Some [] }
-        ensures sinks { (mem_ledger result).sinks ≡ same None }
+        ensures left { (mem_ledger result).left ≡ same None }
         ensures last { (mem_ledger result).last ≡ same (Some []) }
         ensures clock { (mem_ledger result).clock ≡ Some [] }
         ensures plan { mem_plan result ≡ record {
@@ -161,16 +165,6 @@ impl MemWorld {
         self.last.at(role)
     }
 
-    /// The name under which the role's last sink was opened, and none where it had none.
-    pub fn sink_name(&self, role: Role) -> Option<&str>
-        ensures { option_copied result ≡ at (mem_ledger self.now).sinks role }
-    {
-        match self.counters.sinks.at(role) {
-            Some(name) => Some(name.as_str()),
-            None => None,
-        }
-    }
-
     /// How many devices of the role were opened.
     pub fn opened(&self, role: Role) -> u64
         ensures { result ≡ at (mem_ledger self.now).opened role }
@@ -248,17 +242,18 @@ impl MemWorld {
     }
 
     // Counts an open of a name that failed.
-    fn refuse(&mut self) -> OpenError
+    fn refuse(&mut self, opening: Opening) -> OpenError
         ensures answer { result ≡ OpenError.Failed }
         ensures counted { self.new ≡ record self.old {
           named_opens = one_more self.old.named_opens;
           counters = record self.old.counters {
             opening_faults = one_more self.old.counters.opening_faults;
+            refused = opening ∷ self.old.counters.refused;
           };
         } }
     {
         self.named_opens = self.named_opens.saturating_add(1);
-        self.counters.opening_failed();
+        self.counters.opening_failed(opening);
         OpenError::Failed
     }
 }
@@ -282,12 +277,13 @@ impl World for MemWorld {
 
     /// Fails where the open is to fail or no file has the name. The source gives as much as fits.
     fn source(&mut self, role: Role, name: Option<&str>) -> Result<MemSource, OpenError>
-        ensures opened { OnOk result (mem_ledger self.new ≡ opens (mem_ledger self.old) role) }
+        ensures opened { OnOk result
+            (mem_ledger self.new ≡ opens (mem_ledger self.old) role (option_copied name.entry)) }
         ensures holds { IfOk result
             (λ s. Some s.left ≡ held (mem_ledger self.old) role (option_copied name.entry)) }
         ensures fresh { IfOk result (λ s. s.calls.faults ≡ 0) }
         ensures failed { IsErrOf result OpenError.Failed
-            → mem_ledger self.new ≡ opening_fails (mem_ledger self.old) }
+            → mem_ledger self.new ≡ opening_fails (mem_ledger self.old) (opening.Source role (option_copied name.entry)) }
         ensures named { IsErrOf result OpenError.Failed → IsSome name.entry }
         ensures memory { IsErrOf result OpenError.NoMemory
             → mem_ledger self.new ≡ mem_ledger self.old }
@@ -306,12 +302,12 @@ impl World for MemWorld {
             (mem_plan self.old) (mem_plan self.new) result }
     {
         let Some(held) = self.held(role, name) else {
-            return Err(self.refuse());
+            return Err(self.refuse(Opening::Source(role, told_name(name))));
         };
         let bytes = held.to_vec(self.alloc)?;
         let failing = self.failing.at(role).to_vec(self.alloc)?;
         self.note_name(name);
-        self.counters.open(role);
+        self.counters.open_source(role, name);
         Ok(MemSource::new(bytes, Vec::new(self.alloc), failing))
     }
 
@@ -322,7 +318,7 @@ impl World for MemWorld {
         ensures empty { IfOk result (λ k. k.kept ≡ []) }
         ensures fresh { IfOk result (λ k. k.calls.faults ≡ 0) }
         ensures failed { IsErrOf result OpenError.Failed
-            → mem_ledger self.new ≡ opening_fails (mem_ledger self.old) }
+            → mem_ledger self.new ≡ opening_fails (mem_ledger self.old) (opening.Sink role (option_copied name.entry)) }
         ensures named { IsErrOf result OpenError.Failed → IsSome name.entry }
         ensures memory { IsErrOf result OpenError.NoMemory
             → mem_ledger self.new ≡ mem_ledger self.old }
@@ -336,25 +332,25 @@ impl World for MemWorld {
             (mem_plan self.old) (mem_plan self.new) result }
     {
         if self.open_fails(name) {
-            return Err(self.refuse());
+            return Err(self.refuse(Opening::Sink(role, told_name(name))));
         }
         let failing = self.failing.at(role).to_vec(self.alloc)?;
-        let kept = kept_name(self.alloc, name)?;
         self.note_name(name);
-        self.counters.open_sink(role, kept);
+        self.counters.open_sink(role, name);
         Ok(MemSink::new(self.alloc, failing))
     }
 
     /// Fails where the open is to fail or no file has the name.
     fn image(&mut self, name: Option<&str>) -> Result<MemImage, OpenError>
-        ensures opened { OnOk result (mem_ledger self.new ≡ opens_disk (mem_ledger self.old)) }
+        ensures opened { OnOk result
+            (mem_ledger self.new ≡ opens_disk (mem_ledger self.old) (option_copied name.entry)) }
         ensures holds { IfOk result
             (λ i. Some i.bytes ≡ image_held (mem_ledger self.old) (option_copied name.entry)) }
         ensures fresh { IfOk result (λ i. i.calls.faults ≡ 0) }
         ensures size { IfOk result
             (λ i. HasSize (mem_sizes self.new) (option_copied name.entry) (length i.bytes)) }
         ensures failed { IsErrOf result OpenError.Failed
-            → mem_ledger self.new ≡ opening_fails (mem_ledger self.old) }
+            → mem_ledger self.new ≡ opening_fails (mem_ledger self.old) (opening.Disk (option_copied name.entry)) }
         ensures named { IsErrOf result OpenError.Failed → IsSome name.entry }
         ensures memory { IsErrOf result OpenError.NoMemory
             → mem_ledger self.new ≡ mem_ledger self.old }
@@ -371,12 +367,12 @@ impl World for MemWorld {
             (mem_plan self.old) (mem_plan self.new) result }
     {
         let Some(held) = self.image_held(name) else {
-            return Err(self.refuse());
+            return Err(self.refuse(Opening::Disk(told_name(name))));
         };
         let bytes = held.to_vec(self.alloc)?;
         let failing = self.failing_disk.to_vec(self.alloc)?;
         self.note_name(name);
-        self.counters.open_disk();
+        self.counters.open_disk(name);
         Ok(MemImage::new(bytes, failing))
     }
 
@@ -401,11 +397,13 @@ impl World for MemWorld {
 
     fn take_source(&mut self, role: Role, source: MemSource)
         ensures back { mem_ledger self.new
-            ≡ source_back (mem_ledger self.old) role source.calls.faults }
+            ≡ source_back (mem_ledger self.old) role source.calls.faults (Some source.left) }
         ensures sizes { KeepsSizes (mem_sizes self.old) (mem_sizes self.new) }
         ensures plan { mem_plan self.new ≡ mem_plan self.old }
     {
-        self.counters.give_back(role, source.faults());
+        let left = told_bytes(source.left());
+        self.counters
+            .give_source_back(role, source.faults(), Some(left));
     }
 
     fn take_sink(&mut self, role: Role, sink: MemSink)

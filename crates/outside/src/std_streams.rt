@@ -1,14 +1,51 @@
 //! The process's standard streams. They tell no bytes.
 ghost use Rattle.std.specs.Prelude.{◌≡◌, ℕ, None};
+ghost use Rattle.std.specs.Io.{ReadsAtMost};
 
 use crate::faults::count_fault;
+use crate::files::FileId;
 use crate::{Failed, Sink, Source};
-use std::io::{Read, Stderr, Stdin, Stdout, Write};
+use std::fs::OpenOptions;
+use std::io::{ErrorKind, Read, Stderr, Stdin, Stdout, Write};
 use std::marker::Model;
+use std::os::fd::{AsRawFd, IntoRawFd};
+use std::time::Duration;
+use std::{fs, thread};
 
-/// Standard input. Each error counts. Contracts see it as its count of faults.
+// How many milliseconds an input that has nothing yet is left alone.
+const PAUSE: u64 = 10;
+
+/// Opens each standard stream that is closed on the null device, for as long as the process runs. So
+/// no file that is opened later takes its place.
+pub(crate) fn keep_standard_streams(rt: HostRuntime) {
+    for _ in 0..3 {
+        // The system gives the lowest number that is free.
+        let opened = OpenOptions::new()
+            .read(true)
+            .write(true)
+            .open(&rt, "/dev/null");
+        match opened {
+            Ok(null) if null.as_raw_fd() <= 2 => {
+                let _ = null.into_raw_fd();
+            }
+            _ => return,
+        }
+    }
+}
+
+/// Which regular file standard input is.
+pub(crate) fn standard_input(rt: HostRuntime) -> Option<FileId> {
+    match fs::metadata(&rt, "/dev/stdin") {
+        Ok(metadata) => FileId::of(&metadata),
+        Err(_) => None,
+    }
+}
+
+/// Standard input. An input that doesn't block and has nothing yet is waited for. Each error counts.
+/// Contracts see it as its count of faults.
 #[derive(Drop)]
 pub struct StdSource {
+    rt: HostRuntime,
     stream: Stdin,
     faults: u64,
 }
@@ -25,6 +62,7 @@ impl StdSource {
         ensures { result ≡ 0 }
     {
         StdSource {
+            rt,
             stream: rt.stdin(),
             faults: 0,
         }
@@ -43,11 +81,27 @@ impl Source for StdSource {
     ghost faults = { λ s. s };
 
     fn read(&mut self, buf: &mut [u8]) -> Result<usize, Failed> {
-        match self.stream.read(buf) {
+        match read_waiting(self.rt, &mut self.stream, buf) {
             Ok(count) => Ok(count),
             Err(_) => Err(count_fault(&mut self.faults)),
         }
     }
+}
+
+// Reads what the stream has next, and waits while it has nothing yet.
+fn read_waiting(rt: HostRuntime, stream: &mut Stdin, buf: &mut [u8]) -> Result<usize, Failed>
+    ensures { ReadsAtMost result buf.new }
+{
+    for _ in 0..u64::MAX {
+        match stream.read(buf) {
+            Ok(count) => return Ok(count),
+            Err(error) if error.kind() == ErrorKind::WouldBlock => {
+                thread::sleep(&rt, Duration::from_millis(PAUSE));
+            }
+            Err(_) => return Err(Failed),
+        }
+    }
+    Err(Failed)
 }
 
 #[derive(Drop)]

@@ -29,6 +29,13 @@ impl SureSource {
         SureSource { bytes, at: 0 }
     }
 
+    /// The bytes that are left.
+    pub(crate) fn left(&self) -> &[u8]
+        ensures { result.now ≡ self.now }
+    {
+        &self.bytes[self.at..]
+    }
+
     /// Copies as many of the next bytes as fit, and goes past them.
     pub(crate) fn give(&mut self, buf: &mut [u8]) -> usize
         ensures count { result ≡ min (length buf.old) (length self.old) }

@@ -121,8 +121,6 @@ fn a_world_in_memory_tells_what_a_sink_had_taken(rt: HostRuntime) -> Result<(), 
     world.take_sink(Role::LogOut, sink);
     assert_eq!(rt; world.written(Role::LogOut), b"ab".as_slice());
     assert_eq!(rt; world.opened(Role::LogOut), 1);
-    assert_eq!(rt; world.sink_name(Role::LogOut), Some("log"));
-    assert_eq!(rt; world.sink_name(Role::ConsoleOut), None);
     assert_eq!(rt; world.opened(Role::ConsoleOut), 0);
     Ok(())
 }
@@ -153,11 +151,10 @@ fn a_world_in_memory_opens_what_was_added(rt: HostRuntime) -> Result<(), Fail> {
 }
 
 #[test]
-fn a_world_in_memory_has_a_disk_and_a_clock(rt: HostRuntime) -> Result<(), Fail> {
+fn a_world_in_memory_has_a_disk(rt: HostRuntime) -> Result<(), Fail> {
     let mut world = MemWorld::new(rt.alloc());
     world.add_file("disk", b"abcd".to_vec(rt.alloc())?)?;
     world.set_failing_disk([0].to_vec(rt.alloc())?);
-    world.set_clock([3].to_vec(rt.alloc())?);
     let mut buf = [0u8; 2];
     let mut image = world.image(Some("disk"))?;
     assert_eq!(rt; image.len(), 4);
@@ -165,6 +162,13 @@ fn a_world_in_memory_has_a_disk_and_a_clock(rt: HostRuntime) -> Result<(), Fail>
     assert_eq!(rt; image.read_at(1, &mut buf), Ok(()));
     assert_eq!(rt; buf, *b"bc");
     world.take_image(image);
+    Ok(())
+}
+
+#[test]
+fn a_world_in_memory_has_a_clock(rt: HostRuntime) -> Result<(), Fail> {
+    let mut world = MemWorld::new(rt.alloc());
+    world.set_clock([3].to_vec(rt.alloc())?);
     let mut clock = world.clock();
     assert_eq!(rt; clock.now(), 3);
     world.take_clock(clock);

@@ -1,6 +1,7 @@
 //! Where the devices of a run come from, and where they are given back.
 ghost use Rattle.std.specs.Prelude.{◌≡◌, ℕ, List, IsSome, IfOk, OnOk, IsErrOf, option_copied};
 ghost use Rattle.std.specs.declared.option.Option.{Option};
+ghost use Rattle.outside.specs.declared.openings.Opening.TheVariants as opening;
 ghost use Rattle.outside.specs.Ledger.{Ledger, held, image_held, opens, opens_sink, opening_fails, source_back, sink_back, opens_disk, disk_back, opens_clock, clock_back, KeepsSizes, HasSize, StartsEmpty};
 
 use crate::{HostClock, Image, Role, Sink, Source};
@@ -30,9 +31,10 @@ impl From<AllocError> for OpenError {
 ///
 /// - how often the devices of a role that were given back failed, those of the disk, and openings;
 /// - for each role, the disk and the clock how many were opened and how many were given back;
-/// - for each role the name under which its last sink was opened;
-/// - what a name and standard input hold, and what the sink of a role and the clock that were last
-///   given back had taken and given. A world may tell nothing of these.
+/// - all openings in their order, and those that failed, each with its role and its name;
+/// - what a name and standard input hold, what the source of a role last given back had left, and
+///   what the sink and the clock last given back had taken and given. A world may tell nothing of
+///   these.
 ///
 /// What a name or standard input holds stays, also where a sink is opened or written under that
 /// name. A device that is opened has not failed yet.
@@ -54,13 +56,14 @@ pub trait World {
     /// Opens a source. With no name `ConsoleIn` is standard input, and a source of any other role
     /// is at its end.
     fn source(&mut self, role: Role, name: Option<&str>) -> Result<Self::Source, OpenError>
-        ensures opened { OnOk result (ledger self.new ≡ opens (ledger self.old) role) }
+        ensures opened { OnOk result
+            (ledger self.new ≡ opens (ledger self.old) role (option_copied name.entry)) }
         ensures holds { IfOk result
             (λ s. Self.Source.left s ≡ held (ledger self.old) role (option_copied name.entry)) }
         ensures fresh { IfOk result (λ s. Self.Source.faults s ≡ 0) }
         // errors
         ensures failed { IsErrOf result OpenError.Failed
-            → ledger self.new ≡ opening_fails (ledger self.old) }
+            → ledger self.new ≡ opening_fails (ledger self.old) (opening.Source role (option_copied name.entry)) }
         ensures named { IsErrOf result OpenError.Failed → IsSome name.entry }
         ensures memory { IsErrOf result OpenError.NoMemory → ledger self.new ≡ ledger self.old }
         ensures sizes { KeepsSizes (sizes self.old) (sizes self.new) };
@@ -74,7 +77,7 @@ pub trait World {
         ensures fresh { IfOk result (λ k. Self.Sink.faults k ≡ 0) }
         // errors
         ensures failed { IsErrOf result OpenError.Failed
-            → ledger self.new ≡ opening_fails (ledger self.old) }
+            → ledger self.new ≡ opening_fails (ledger self.old) (opening.Sink role (option_copied name.entry)) }
         ensures named { IsErrOf result OpenError.Failed → IsSome name.entry }
         ensures memory { IsErrOf result OpenError.NoMemory → ledger self.new ≡ ledger self.old }
         ensures sizes { KeepsSizes (sizes self.old) (sizes self.new) };
@@ -82,7 +85,8 @@ pub trait World {
     /// Opens an image for the disk. With no name it has length 0. A name that is opened again gives
     /// the same length and bytes, or fails.
     fn image(&mut self, name: Option<&str>) -> Result<Self::Image, OpenError>
-        ensures opened { OnOk result (ledger self.new ≡ opens_disk (ledger self.old)) }
+        ensures opened { OnOk result
+            (ledger self.new ≡ opens_disk (ledger self.old) (option_copied name.entry)) }
         ensures holds { IfOk result
             (λ i. Self.Image.content i ≡ image_held (ledger self.old) (option_copied name.entry)) }
         ensures fresh { IfOk result (λ i. Self.Image.faults i ≡ 0) }
@@ -90,7 +94,7 @@ pub trait World {
             (λ i. HasSize (sizes self.new) (option_copied name.entry) (Self.Image.size i)) }
         // errors
         ensures failed { IsErrOf result OpenError.Failed
-            → ledger self.new ≡ opening_fails (ledger self.old) }
+            → ledger self.new ≡ opening_fails (ledger self.old) (opening.Disk (option_copied name.entry)) }
         ensures named { IsErrOf result OpenError.Failed → IsSome name.entry }
         ensures memory { IsErrOf result OpenError.NoMemory → ledger self.new ≡ ledger self.old }
         ensures sizes { KeepsSizes (sizes self.old) (sizes self.new) };
@@ -103,8 +107,8 @@ pub trait World {
 
     /// Takes a source of the role back, and adds its count of faults to the role's.
     fn take_source(&mut self, role: Role, source: Self::Source)
-        ensures back { ledger self.new
-            ≡ source_back (ledger self.old) role (Self.Source.faults source) }
+        ensures back { ledger self.new ≡ source_back (ledger self.old) role
+            (Self.Source.faults source) (Self.Source.left source) }
         ensures sizes { KeepsSizes (sizes self.old) (sizes self.new) };
 
     /// Takes a sink of the role back, and adds its count of faults to the role's.
