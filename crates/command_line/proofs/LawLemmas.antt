@@ -1,13 +1,13 @@
 -- The laws on lines of words.
-use Rattle.std.proofs.Common.{◌≡◌, ℕ, ◌+◌, suc, ◌<◌, ◌≤◌, Bool, true, false, List, [], ◌∷◌, ◌++◌, Option, Some, None, length, map, get_or, take, refl, sym, ap, ◌∙◌, subst, arith, codes, ◌⊎◌, inl, inr, if◌then◌else◌}
+use Rattle.std.proofs.Common.{◌≡◌, ℕ, ◌+◌, suc, ◌<◌, ◌≤◌, Bool, true, false, List, [], ◌∷◌, ◌++◌, Option, Some, None, length, map, get_or, take, refl, sym, ap, ◌∙◌, subst, arith, codes, ◌⊎◌, inl, inr, ◌||◌, if◌then◌else◌}
 use Rattle.std.specs.Prelude.{⊤}
 use Rattle.std.specs.Str.{bytes_eq}
 use Rattle.std.proofs.lemmas.Slice.Eq.{bytes_eq-Decides}
 use Rattle.std.specs.Fmt.{decimal}
 use Rattle.command_line.specs.Number.{number_in}
 use Rattle.command_line.specs.Icount.{Icount, RecordInto, ReplayFrom}
-use Rattle.command_line.specs.Words.{Given, given_none, Key, with_option, key_of, Reading, Records, Replays, Demonstrates, Help, Version, Bad, Early, Step, reading, follow, pair_step, value_step, at_end, request, alone, demo_letters, demo_reading, reading_of, IsBadLine}
-use Rattle.command_line.specs.Grammar.{Choice, key_word, line_words, Asks, IsLine, GoesOn, IsFirstBad}
+use Rattle.command_line.specs.Words.{Given, given_none, Key, with_option, key_of, Reading, Records, Replays, Demonstrates, Help, Version, Bad, Early, Step, reading, follow, pair_step, value_step, at_end, request, alone, demo_letters, demo_reading, is_help, is_version, reading_of, IsBadLine}
+use Rattle.command_line.specs.Grammar.{Choice, key_word, line_words, Asks, IsHelp, IsVersion, IsLine, GoesOn, IsFirstBad}
 use Rattle.command_line.proofs.NumberLemmas.{number-range, number-sound, number-complete}
 use Rattle.command_line.proofs.StepLemmas.{Together, Steps, steps_from_adds, adds_from_steps}
 use Rattle.command_line.proofs.GrammarLemmas.{Named, IsRequest, none_given, key_of-word, Continues, continues-nil, continues-pair, continues-key, continues-back, begins, no_key, no_value, read_cases}
@@ -21,37 +21,83 @@ branch false x y P hit miss = miss refl
 differ : (w x : List ℕ) → bytes_eq w x ≡ false → w ≡ x → ⊥
 differ w x e p = let t = (bytes_eq-Decides w x).1 p in let h : false ≡ true = sym e ∙ t in cc
 
-first_word : (w : List ℕ) (ws : List (List ℕ)) (P : Reading → Type 0) → (w ≡ codes "--help" → P (alone Help ws)) → (w ≡ codes "--version" → P (alone Version ws))
-    → (w ≡ codes "demo" → P (demo_reading ws)) → ((w ≡ codes "--help" → ⊥) → (w ≡ codes "--version" → ⊥) → (w ≡ codes "demo" → ⊥) → P (reading given_none 0 (w ∷ ws)))
+one_of : (a b : Bool) (A B : Type 0) → (a ≡ true → A) → (b ≡ true → B) → a || b ≡ true → A ⊎ B
+one_of true b A B p q e = inl (p refl)
+one_of false true A B p q e = inr (q refl)
+one_of false false A B p q e = absurd cc
+
+none_of : (a b : Bool) (A B : Type 0) → (a ≡ false → A → ⊥) → (b ≡ false → B → ⊥) → a || b ≡ false → A ⊎ B → ⊥
+none_of true b A B p q e k = absurd cc
+none_of false true A B p q e k = absurd cc
+none_of false false A B p q e (inl k) = p refl k
+none_of false false A B p q e (inr k) = q refl k
+
+is_word : (w x : List ℕ) → bytes_eq w x ≡ true → w ≡ x
+is_word w x e = (bytes_eq-Decides w x).0 e
+
+asks_help : (w : List ℕ) → is_help w ≡ true → IsHelp w
+asks_help w e =
+    one_of _ _ _ _ (is_word w (codes "--help")) (one_of _ _ _ _ (is_word w (codes "-help")) (is_word w (codes "-h"))) e
+
+asks_no_help : (w : List ℕ) → is_help w ≡ false → IsHelp w → ⊥
+asks_no_help w e =
+    none_of _ _ _ _ (differ w (codes "--help")) (none_of _ _ _ _ (differ w (codes "-help")) (differ w (codes "-h"))) e
+
+asks_version : (w : List ℕ) → is_version w ≡ true → IsVersion w
+asks_version w e = one_of _ _ _ _ (is_word w (codes "--version")) (is_word w (codes "-version")) e
+
+asks_no_version : (w : List ℕ) → is_version w ≡ false → IsVersion w → ⊥
+asks_no_version w e = none_of _ _ _ _ (differ w (codes "--version")) (differ w (codes "-version")) e
+
+first_word : (w : List ℕ) (ws : List (List ℕ)) (P : Reading → Type 0) → (IsHelp w → P (alone Help ws)) → (IsVersion w → P (alone Version ws))
+    → (w ≡ codes "demo" → P (demo_reading ws)) → ((IsHelp w → ⊥) → (IsVersion w → ⊥) → (w ≡ codes "demo" → ⊥) → P (reading given_none 0 (w ∷ ws)))
     → P (reading_of (w ∷ ws))
 first_word w ws P help version demo plain =
-    branch (bytes_eq w (codes "--help")) _ _ P (λ e. help ((bytes_eq-Decides w (codes "--help")).0 e))
-    (λ d. branch (bytes_eq w (codes "--version")) _ _ P (λ e. version ((bytes_eq-Decides w (codes "--version")).0 e))
+    branch (is_help w) _ _ P (λ e. help (asks_help w e))
+    (λ d. branch (is_version w) _ _ P (λ e. version (asks_version w e))
     (λ e. branch (bytes_eq w (codes "demo")) _ _ P (λ f. demo ((bytes_eq-Decides w (codes "demo")).0 f))
-    (λ f. plain (differ w (codes "--help") d) (differ w (codes "--version") e) (differ w (codes "demo") f))))
+    (λ f. plain (asks_no_help w d) (asks_no_version w e) (differ w (codes "demo") f))))
 
-no_key-help : (key : Key) → codes "--help" ≡ key_word key → ⊥
-no_key-help key p = let h : None ≡ Some key = ap (key_of given_none) p ∙ key_of-word given_none key (none_given key) in cc
+keyless : (key : Key) (x : List ℕ) → key_of given_none x ≡ None → x ≡ key_word key → ⊥
+keyless key x none p = let h : None ≡ Some key = sym none ∙ ap (key_of given_none) p ∙ key_of-word given_none key (none_given key) in cc
 
-no_key-version : (key : Key) → codes "--version" ≡ key_word key → ⊥
-no_key-version key p = let h : None ≡ Some key = ap (key_of given_none) p ∙ key_of-word given_none key (none_given key) in cc
+no_key-help : (w : List ℕ) (key : Key) → IsHelp w → w ≡ key_word key → ⊥
+no_key-help w key (inl p) q = keyless key (codes "--help") refl (sym p ∙ q)
+no_key-help w key (inr (inl p)) q = keyless key (codes "-help") refl (sym p ∙ q)
+no_key-help w key (inr (inr p)) q = keyless key (codes "-h") refl (sym p ∙ q)
+
+no_key-version : (w : List ℕ) (key : Key) → IsVersion w → w ≡ key_word key → ⊥
+no_key-version w key (inl p) q = keyless key (codes "--version") refl (sym p ∙ q)
+no_key-version w key (inr p) q = keyless key (codes "-version") refl (sym p ∙ q)
 
 no_key-demo : (key : Key) → codes "demo" ≡ key_word key → ⊥
 no_key-demo key p = let h : None ≡ Some key = ap (key_of given_none) p ∙ key_of-word given_none key (none_given key) in cc
 
-help_no_demo : (w : List ℕ) → w ≡ codes "--help" → w ≡ codes "demo" → ⊥
-help_no_demo w p q = cc
+help_no_demo : (w : List ℕ) → IsHelp w → w ≡ codes "demo" → ⊥
+help_no_demo w (inl p) q = cc
+help_no_demo w (inr (inl p)) q = cc
+help_no_demo w (inr (inr p)) q = cc
 
-version_no_demo : (w : List ℕ) → w ≡ codes "--version" → w ≡ codes "demo" → ⊥
-version_no_demo w p q = cc
+version_no_demo : (w : List ℕ) → IsVersion w → w ≡ codes "demo" → ⊥
+version_no_demo w (inl p) q = cc
+version_no_demo w (inr p) q = cc
+
+pub no_help : (w : List ℕ) → (w ≡ codes "--help" → ⊥) → (w ≡ codes "-help" → ⊥) → (w ≡ codes "-h" → ⊥) → IsHelp w → ⊥
+no_help w a b c (inl p) = a p
+no_help w a b c (inr (inl p)) = b p
+no_help w a b c (inr (inr p)) = c p
+
+pub no_version : (w : List ℕ) → (w ≡ codes "--version" → ⊥) → (w ≡ codes "-version" → ⊥) → IsVersion w → ⊥
+no_version w a b (inl p) = a p
+no_version w a b (inr p) = b p
 
 -- words whose first stands for nothing else are options
-pub plain_reads : {A : Type 0} (f : A → List ℕ) (xs : List A) (x : A) (w : List ℕ) → 1 ≤ length xs → x ≡ get_or xs 0 x → w ≡ f x → (w ≡ codes "--help" → ⊥) → (w ≡ codes "--version" → ⊥)
+pub plain_reads : {A : Type 0} (f : A → List ℕ) (xs : List A) (x : A) (w : List ℕ) → 1 ≤ length xs → x ≡ get_or xs 0 x → w ≡ f x → (IsHelp w → ⊥) → (IsVersion w → ⊥)
     → (w ≡ codes "demo" → ⊥) → reading given_none 0 (map f xs) ≡ reading_of (map f xs)
 plain_reads f [] x w h p q b c d = absurd (omega arith)
 plain_reads f (y ∷ ys) x w h p q b c d =
     let same : w ≡ f y = q ∙ ap f p in
-    first_word (f y) (map f ys) (λ r. reading given_none 0 (f y ∷ map f ys) ≡ r) (λ e. absurd (b (same ∙ e))) (λ e. absurd (c (same ∙ e))) (λ e. absurd (d (same ∙ e))) (λ s t u. refl)
+    first_word (f y) (map f ys) (λ r. reading given_none 0 (f y ∷ map f ys) ≡ r) (λ e. absurd (b (subst IsHelp (sym same) e))) (λ e. absurd (c (subst IsVersion (sym same) e))) (λ e. absurd (d (same ∙ e))) (λ s t u. refl)
 
 -- Lines of options.
 
@@ -79,8 +125,8 @@ line_key : (w v : List ℕ) (rest : List (List ℕ)) (m : Reading) → (w ≡ co
 line_key w v rest (Records r) d h = asked_key w v rest (Records r) (asked_from_asks (w ∷ v ∷ rest) (Records r) h)
 line_key w v rest (Replays r) d h = asked_key w v rest (Replays r) (asked_from_asks (w ∷ v ∷ rest) (Replays r) h)
 line_key w v rest (Demonstrates n) d h = let spelled = h.0 in absurd (d (cc))
-line_key w v rest Help d h = absurd (cc)
-line_key w v rest Version d h = absurd (cc)
+line_key w v rest Help d h = let e = h.1 in absurd (cc)
+line_key w v rest Version d h = let e = h.1 in absurd (cc)
 line_key w v rest (Bad k) d h = absurd h
 line_key w v rest Early d h = absurd h
 
@@ -130,12 +176,12 @@ plain_sound words Version h = absurd h
 plain_sound words (Bad k) h = inl tt
 plain_sound words Early h = inl tt
 
-help_sound : (w : List ℕ) (ws : List (List ℕ)) → w ≡ codes "--help" → IsBadLine (alone Help ws) ⊎ IsLine (w ∷ ws) (alone Help ws)
-help_sound w [] p = inr (ap (λ x. x ∷ []) p)
+help_sound : (w : List ℕ) (ws : List (List ℕ)) → IsHelp w → IsBadLine (alone Help ws) ⊎ IsLine (w ∷ ws) (alone Help ws)
+help_sound w [] p = inr (w, refl, p)
 help_sound w (v ∷ vs) p = inl tt
 
-version_sound : (w : List ℕ) (ws : List (List ℕ)) → w ≡ codes "--version" → IsBadLine (alone Version ws) ⊎ IsLine (w ∷ ws) (alone Version ws)
-version_sound w [] p = inr (ap (λ x. x ∷ []) p)
+version_sound : (w : List ℕ) (ws : List (List ℕ)) → IsVersion w → IsBadLine (alone Version ws) ⊎ IsLine (w ∷ ws) (alone Version ws)
+version_sound w [] p = inr (w, refl, p)
 version_sound w (v ∷ vs) p = inl tt
 
 demo_spelled : (w v : List ℕ) (n : ℕ) → w ≡ codes "demo" → number_in 1 2000 v ≡ Some n → IsLine (w ∷ v ∷ []) (Demonstrates n)
@@ -171,18 +217,27 @@ line_reads (o ∷ os) g h k a =
 options_read : (os : List Choice) (h : Given) (m : Reading) → Steps given_none os h → at_end h ≡ m → IsRequest m → reading_of (line_words os) ≡ m
 options_read [] h m a e r = absurd (subst IsRequest (sym (ap at_end a ∙ e)) r)
 options_read (o ∷ os) h m a e r =
-    first_word (key_word o.key) (o.value ∷ line_words os) (λ x. x ≡ m) (λ p. absurd (no_key-help o.key (sym p))) (λ p. absurd (no_key-version o.key (sym p)))
+    first_word (key_word o.key) (o.value ∷ line_words os) (λ x. x ≡ m) (λ p. absurd (no_key-help (key_word o.key) o.key p refl)) (λ p. absurd (no_key-version (key_word o.key) o.key p refl))
     (λ p. absurd (no_key-demo o.key (sym p))) (λ b c d. line_reads (o ∷ os) given_none h 0 a ∙ e)
 
 asked_reads : (words : List (List ℕ)) (m : Reading) → IsRequest m → Asked given_none words m → reading_of words ≡ m
 asked_reads words m r h = ap reading_of (sym h.spelled) ∙ options_read h.choices h.last m h.steps h.asks r
 
+help_reads : (w : List ℕ) → IsHelp w → reading_of (w ∷ []) ≡ Help
+help_reads w (inl p) = ap (λ x. reading_of (x ∷ [])) p
+help_reads w (inr (inl p)) = ap (λ x. reading_of (x ∷ [])) p
+help_reads w (inr (inr p)) = ap (λ x. reading_of (x ∷ [])) p
+
+version_reads : (w : List ℕ) → IsVersion w → reading_of (w ∷ []) ≡ Version
+version_reads w (inl p) = ap (λ x. reading_of (x ∷ [])) p
+version_reads w (inr p) = ap (λ x. reading_of (x ∷ [])) p
+
 pub line_complete : (words : List (List ℕ)) (m : Reading) → IsLine words m → reading_of words ≡ m
 line_complete words (Records r) h = asked_reads words (Records r) tt (asked_from_asks words (Records r) h)
 line_complete words (Replays r) h = asked_reads words (Replays r) tt (asked_from_asks words (Replays r) h)
 line_complete words (Demonstrates n) h = ap reading_of h.0 ∙ ap (λ o. demo_letters o []) (number-complete 1 2000 n (omega (arith, h.2)) h.1 h.2)
-line_complete words Help h = ap reading_of h
-line_complete words Version h = ap reading_of h
+line_complete words Help h = ap reading_of h.1 ∙ help_reads h.0 h.2
+line_complete words Version h = ap reading_of h.1 ∙ version_reads h.0 h.2
 line_complete words (Bad k) h = absurd h
 line_complete words Early h = absurd h
 
@@ -260,16 +315,16 @@ goes_on words h = record {
 asked_goes_on : (words rest : List (List ℕ)) (m : Reading) → IsRequest m → Asked given_none (words ++ rest) m → Continues given_none words
 asked_goes_on words rest m q h = record { rest = rest; choices = h.choices; last = h.last; meaning = m; spelled = h.spelled; steps = h.steps; asks = h.asks; request = q }
 
-plain_line : (w : List ℕ) (words rest : List (List ℕ)) (m : Reading) → (w ≡ codes "--help" → ⊥) → (w ≡ codes "--version" → ⊥) → (w ≡ codes "demo" → ⊥) → IsLine (w ∷ words ++ rest) m → Continues given_none (w ∷ words)
+plain_line : (w : List ℕ) (words rest : List (List ℕ)) (m : Reading) → (IsHelp w → ⊥) → (IsVersion w → ⊥) → (w ≡ codes "demo" → ⊥) → IsLine (w ∷ words ++ rest) m → Continues given_none (w ∷ words)
 plain_line w words rest (Records r) b c d h = asked_goes_on (w ∷ words) rest (Records r) tt (asked_from_asks (w ∷ words ++ rest) (Records r) h)
 plain_line w words rest (Replays r) b c d h = asked_goes_on (w ∷ words) rest (Replays r) tt (asked_from_asks (w ∷ words ++ rest) (Replays r) h)
 plain_line w words rest (Demonstrates n) b c d h = let spelled = h.0 in absurd (d (cc))
-plain_line w words rest Help b c d h = absurd (b (cc))
-plain_line w words rest Version b c d h = absurd (c (cc))
+plain_line w words rest Help b c d h = let p = h.1 in let e : h.0 ≡ w = cc in absurd (b (subst IsHelp e h.2))
+plain_line w words rest Version b c d h = let p = h.1 in let e : h.0 ≡ w = cc in absurd (c (subst IsVersion e h.2))
 plain_line w words rest (Bad k) b c d h = absurd h
 plain_line w words rest Early b c d h = absurd h
 
-plain_bad : (w : List ℕ) (ws : List (List ℕ)) → (w ≡ codes "--help" → ⊥) → (w ≡ codes "--version" → ⊥) → (w ≡ codes "demo" → ⊥) → (k : ℕ) → reading given_none 0 (w ∷ ws) ≡ Bad k → IsFirstBad (w ∷ ws) k
+plain_bad : (w : List ℕ) (ws : List (List ℕ)) → (IsHelp w → ⊥) → (IsVersion w → ⊥) → (w ≡ codes "demo" → ⊥) → (k : ℕ) → reading given_none 0 (w ∷ ws) ≡ Bad k → IsFirstBad (w ∷ ws) k
 plain_bad w ws b c d k e =
     let h = found_bad (w ∷ ws) k e in
     let found = h.2 in
@@ -280,24 +335,24 @@ plain_bad w ws b c d k e =
       bad = λ q. found.bad (plain_line w (take h.0 ws) q.rest q.meaning b c d q.line);
     })
 
-help_bad : (w : List ℕ) (ws : List (List ℕ)) → w ≡ codes "--help" → (k : ℕ) → alone Help ws ≡ Bad k → IsFirstBad (w ∷ ws) k
+help_bad : (w : List ℕ) (ws : List (List ℕ)) → IsHelp w → (k : ℕ) → alone Help ws ≡ Bad k → IsFirstBad (w ∷ ws) k
 help_bad w [] p k e = absurd (cc)
 help_bad w (v ∷ vs) p k e =
     let same : 1 ≡ k = cc in
     subst (IsFirstBad (w ∷ v ∷ vs)) same (record {
       within = omega arith;
-      before = record { rest = []; meaning = Help; line = ap (λ x. x ∷ []) p };
-      bad = λ q. let b = line_key w v q.rest q.meaning (help_no_demo w p) q.line in no_key-help b.0 (sym p ∙ b.1);
+      before = record { rest = []; meaning = Help; line = (w, refl, p) };
+      bad = λ q. let b = line_key w v q.rest q.meaning (help_no_demo w p) q.line in no_key-help w b.0 p b.1;
     })
 
-version_bad : (w : List ℕ) (ws : List (List ℕ)) → w ≡ codes "--version" → (k : ℕ) → alone Version ws ≡ Bad k → IsFirstBad (w ∷ ws) k
+version_bad : (w : List ℕ) (ws : List (List ℕ)) → IsVersion w → (k : ℕ) → alone Version ws ≡ Bad k → IsFirstBad (w ∷ ws) k
 version_bad w [] p k e = absurd (cc)
 version_bad w (v ∷ vs) p k e =
     let same : 1 ≡ k = cc in
     subst (IsFirstBad (w ∷ v ∷ vs)) same (record {
       within = omega arith;
-      before = record { rest = []; meaning = Version; line = ap (λ x. x ∷ []) p };
-      bad = λ q. let b = line_key w v q.rest q.meaning (version_no_demo w p) q.line in no_key-version b.0 (sym p ∙ b.1);
+      before = record { rest = []; meaning = Version; line = (w, refl, p) };
+      bad = λ q. let b = line_key w v q.rest q.meaning (version_no_demo w p) q.line in no_key-version w b.0 p b.1;
     })
 
 -- `demo` goes on with a number
@@ -315,8 +370,8 @@ demo_line w v rest (Demonstrates n) p h =
     let number : v ≡ decimal n = cc in
     let last : rest ≡ [] = cc in
     (n, ap (number_in 1 2000) number ∙ number-complete 1 2000 n (omega (arith, h.2)) h.1 h.2, last)
-demo_line w v rest Help p h = absurd (cc)
-demo_line w v rest Version p h = absurd (cc)
+demo_line w v rest Help p h = let e = h.1 in absurd (cc)
+demo_line w v rest Version p h = let e = h.1 in absurd (cc)
 demo_line w v rest (Bad k) p h = absurd h
 demo_line w v rest Early p h = absurd h
 
@@ -372,6 +427,6 @@ demo_missing w [] p e = demo_goes_on w p
 demo_missing w (v ∷ vs) p e = absurd (letters_whole (number_in 1 2000 v) vs e)
 
 pub missing : (words : List (List ℕ)) → reading_of words ≡ Early → GoesOn words
-missing [] e = record { rest = codes "--help" ∷ []; meaning = Help; line = refl }
+missing [] e = record { rest = codes "--help" ∷ []; meaning = Help; line = (codes "--help", refl, inl refl) }
 missing (w ∷ ws) e = first_word w ws (λ r. r ≡ Early → GoesOn (w ∷ ws)) (λ p q. absurd (alone_whole Help ws (λ h. cc) q)) (λ p q. absurd (alone_whole Version ws (λ h. cc) q))
     (demo_missing w ws) (λ b c d. plain_missing w ws) e

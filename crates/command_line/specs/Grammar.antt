@@ -1,5 +1,5 @@
 -- The grammar of the words, as what an allowed line is.
-use Rattle.std.specs.Prelude.{◌≡◌, ◌≢◌, ℕ, suc, ◌<◌, ◌≤◌, Bool, true, List, [], ◌∷◌, ◌++◌, Some, None, IfSome, All, IsPermutation, is_none, codes, take, length}
+use Rattle.std.specs.Prelude.{◌≡◌, ◌≢◌, ◌⊎◌, ℕ, suc, ◌<◌, ◌≤◌, Bool, true, List, [], ◌∷◌, ◌++◌, Some, None, IfSome, All, IsPermutation, is_none, codes, take, length}
 use Rattle.std.specs.declared.option.Option.{Option}
 use Rattle.std.specs.Fmt.{decimal}
 use Rattle.std.specs.List.{join_with_byte}
@@ -77,13 +77,22 @@ pub record Asks (g : Given) (words : List (List ℕ)) (meaning : Reading) : Type
   pub fits : go_together last ≡ true
   pub asks : at_end last ≡ meaning
 
+-- the word asks for the help
+abbrev pub IsHelp : List ℕ → Type 0
+IsHelp word =
+    (word ≡ codes "--help") ⊎ ((word ≡ codes "-help") ⊎ (word ≡ codes "-h"))
+
+-- the word asks for the version
+abbrev pub IsVersion : List ℕ → Type 0
+IsVersion word = (word ≡ codes "--version") ⊎ (word ≡ codes "-version")
+
 -- the words are an allowed line with this meaning
 abbrev pub IsLine : List (List ℕ) → Reading → Type 0
 IsLine words (Records r) = Asks given_none words (Records r)
 IsLine words (Replays r) = Asks given_none words (Replays r)
 IsLine words (Demonstrates n) = (words ≡ codes "demo" ∷ decimal n ∷ []) × (1 ≤ n) × (n ≤ 2000)
-IsLine words Help = words ≡ codes "--help" ∷ []
-IsLine words Version = words ≡ codes "--version" ∷ []
+IsLine words Help = (word : List ℕ) × (words ≡ word ∷ []) × IsHelp word
+IsLine words Version = (word : List ℕ) × (words ≡ word ∷ []) × IsVersion word
 IsLine words (Bad k) = ⊥
 IsLine words Early = ⊥
 

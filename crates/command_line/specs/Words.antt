@@ -161,12 +161,20 @@ abbrev pub demo_reading : List (List ℕ) → Reading
 demo_reading [] = Early
 demo_reading (word ∷ rest) = demo_letters (number_in 1 2000 word) rest
 
+-- the words that ask for the help, and for the version
+abbrev pub is_help : List ℕ → Bool
+is_help word = bytes_eq word (codes "--help")
+    || (bytes_eq word (codes "-help") || bytes_eq word (codes "-h"))
+
+abbrev pub is_version : List ℕ → Bool
+is_version word = bytes_eq word (codes "--version") || bytes_eq word (codes "-version")
+
 -- what the words of a command line are
 abbrev pub reading_of : List (List ℕ) → Reading
 reading_of [] = Early
 reading_of (word ∷ rest) =
-    if bytes_eq word (codes "--help") then alone Help rest else
-    if bytes_eq word (codes "--version") then alone Version rest else
+    if is_help word then alone Help rest else
+    if is_version word then alone Version rest else
     if bytes_eq word (codes "demo") then demo_reading rest else
     reading given_none 0 (word ∷ rest)
 

@@ -2,8 +2,8 @@
 //!
 //! `rrvm -icount shift=N,rr=record,rrfile=LOG -bios FILE [-m MIB] [-budget T] [-slice S]` records
 //! a run, `rrvm -icount rr=replay,rrfile=LOG[,shift=N] -bios FILE [-m MIB]` replays one,
-//! `rrvm demo N` demonstrates a guest that prints N letters, and `--help` or `--version` stands
-//! alone. The options come in any order, and so do the keys of `-icount`, each of them once.
+//! `rrvm demo N` demonstrates a guest that prints N letters, and `--help` or `--version`, which
+//! may be shorter, stands alone. The options come in any order, and so do the keys of `-icount`, each of them once.
 #![tactic(auto)]
 
 mod icount;

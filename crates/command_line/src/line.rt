@@ -119,8 +119,8 @@ pub fn read_line<'a>(words: &'a [String]) -> Line<'a>
         return Line::WordsMissing;
     };
     match first.as_str() {
-        "--help" => alone(Line::Help, rest),
-        "--version" => alone(Line::Version, rest),
+        "--help" | "-help" | "-h" => alone(Line::Help, rest),
+        "--version" | "-version" => alone(Line::Version, rest),
         "demo" => read_demo(rest),
         _ => read_from(Options::none(), 0, words),
     }

@@ -122,15 +122,19 @@ fn a_line_that_ends_early_misses_words(rt: HostRuntime) -> Result<(), Fail> {
 
 #[test]
 fn help_is_read_alone(rt: HostRuntime) -> Result<(), Fail> {
-    let help = words(rt.alloc(), "--help")?;
-    assert_eq!(rt; read_line(&help), Line::Help);
+    for word in ["--help", "-help", "-h"] {
+        let help = words(rt.alloc(), word)?;
+        assert_eq!(rt; read_line(&help), Line::Help, "at {word}");
+    }
     Ok(())
 }
 
 #[test]
 fn version_is_read_alone(rt: HostRuntime) -> Result<(), Fail> {
-    let version = words(rt.alloc(), "--version")?;
-    assert_eq!(rt; read_line(&version), Line::Version);
+    for word in ["--version", "-version"] {
+        let version = words(rt.alloc(), word)?;
+        assert_eq!(rt; read_line(&version), Line::Version, "at {word}");
+    }
     Ok(())
 }
 
