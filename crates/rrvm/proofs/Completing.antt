@@ -162,7 +162,7 @@ not-different : (r : Replaying) (log file : List ℕ) (h : Header) (f : Loaded) 
     → Starts r log file h f → IsDifferent r h (Some file) which → ⊥
 not-different r log file h f difference.Shift s k = let words = s.words in absurd cc
 not-different r log file h f difference.Ram s k = let words = s.words in absurd cc
-not-different r log file h f difference.Firmware s k = k.1 s.image.same
+not-different r log file h f difference.Firmware s k = k.1.0 s.image.same
 not-different r log file h f difference.DiskLength s k = k.1.1 s.disk.length
 not-different r log file h f difference.Disk s k = k.1.2 s.disk.digest
 
@@ -221,7 +221,7 @@ comes r log file h f old new BudgetReached told held s stood k =
 comes r log file h f old new (BadWord number) told held s stood k = absurd k
 comes r log file h f old new WordsMissing told held s stood k = absurd k
 comes r log file h f old new (CannotOpen role) told held s stood k =
-    absurd (rose-stood _ _ k stood.opening)
+    absurd (rose-stood _ _ k.counted stood.opening)
 comes r log file h f old new CannotRead told held s stood k =
     absurd (rose-stood _ _ k stood.firmware)
 comes r log file h f old new ConsoleUnreadable told held s stood k = absurd k
@@ -239,7 +239,7 @@ comes r log file h f old new RecordingStopped told held s stood k =
     ended-comes r log file old new 3 0 told held k
 comes r log file h f old new (HeaderRefused offset) told held s stood k =
     absurd (no-bad-header log h offset s.has
-    (if-told (old.names r.log) log (λ xs. IsBadHeader xs offset) told k))
+    (if-told (old.names r.log) log (λ xs. IsBadHeader xs offset) told k.0))
 comes r log file h f old new (LogRefused refusal) told held s stood k =
     let refused = both-told (old.names r.log) (old.names r.bios) log file
     (λ xs ys. IsRefusedLog r xs ys new refusal) told held k in

@@ -76,7 +76,7 @@ fault-of : (read : List ℕ) (h : Header) (e : ImageFault) → length read ≤ F
 fault-of read h image.CannotOpen fits given = tt
 fault-of read h image.CannotRead fits given = tt
 fault-of read h (image.Bad rule) fits given = inl given
-fault-of read h image.OtherFirmware fits given = given
+fault-of read h image.OtherFirmware fits given = (given, fits)
 fault-of read h image.OtherDiskLength fits given = (
   (given.0.firmware, record { same = given.0.same; fits = fits; loads = given.0.loads }),
   given.1,

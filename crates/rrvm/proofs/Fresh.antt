@@ -27,7 +27,7 @@ use Rattle.rrvm.specs.Endings.{IfEnds, IfStops, IsFresh, OpensNothing, closed, r
 
 whole-started : (start : State) (head : List ℕ) (l k : Ledger) (old new : Devices) (reason code : ℕ)
     → IsFresh l old → Whole start head old new reason code
-    → Whole start head (opened_with l) (returned (closed k new) new.input) reason code
+    → Whole start head (opened_with l) (returned (closed k new)) reason code
 whole-started start head l k old new reason code fresh w = record {
   events = w.events;
   last = w.last;
@@ -44,7 +44,7 @@ whole-started start head l k old new reason code fresh w = record {
 
 front-started : (start : State) (head : List ℕ) (l k : Ledger) (old new : Devices) → IsFresh l old
     → Front start head old new
-    → Front start head (opened_with l) (returned (closed k new) new.input)
+    → Front start head (opened_with l) (returned (closed k new))
 front-started start head l k old new fresh f = record {
   events = f.events;
   last = f.last;
@@ -90,10 +90,8 @@ whole-front start head old new reason code w = record {
 records-whole : (h : Header) (f : Loaded) (l k : Ledger) (old new : Devices) (end : RunEnd)
     → IsFresh l old → Records (start_of h f) (header_text h) old new end
     → IfEnds (recording_end_of end) (λ reason code. HasWhole h f l (closed k new) reason code)
-records-whole h f l k old new (End reason code) fresh r = (
-  (new.input, whole-started (start_of h f) (header_text h) l k old new reason code fresh r.0),
-  r.1,
-)
+records-whole h f l k old new (End reason code) fresh r =
+    (whole-started (start_of h f) (header_text h) l k old new reason code fresh r.0, r.1)
 records-whole h f l k old new ConsoleRead fresh r = tt
 records-whole h f l k old new ConsoleWrite fresh r = tt
 records-whole h f l k old new LogWrite fresh r = tt
@@ -127,7 +125,7 @@ recorded-front h f l k m old new end fresh r back =
     let start = start_of h f in
     let front = records-front start (header_text h) old new end r in
     subst (λ (z : Ledger). HasFront h f l z) (sym back)
-    (new.input, front-started start (header_text h) l k old new fresh front)
+    (front-started start (header_text h) l k old new fresh front)
 
 -- ---- a run that the console or its input stopped
 
@@ -138,7 +136,7 @@ took-started Part old new bytes fresh t = TakesFront-start old new bytes fresh t
 
 stop-started : (shown : Extent) (start : State) (head : List ℕ) (l k : Ledger) (old new : Devices)
     → IsFresh l old → ToStop shown start head old new
-    → ToStop shown start head (opened_with l) (returned (closed k new) new.input)
+    → ToStop shown start head (opened_with l) (returned (closed k new))
 stop-started shown start head l k old new fresh s = record {
   events = s.events;
   last = s.last;
@@ -173,16 +171,12 @@ records-stop : (h : Header) (f : Loaded) (l k : Ledger) (old new : Devices) (end
     → Stood (at l.faults LogOut) (at (closed k new).faults LogOut)
     → IfStops (recording_end_of end) (λ shown. HasStop shown h f l (closed k new))
 records-stop h f l k old new (End reason code) fresh same r stood = tt
-records-stop h f l k old new ConsoleRead fresh same r stood = (
-  new.input,
-  stop-started Entire (start_of h f) (header_text h) l k old new fresh
-      (r.2 (log-stood l k old new fresh same stood)),
-)
-records-stop h f l k old new ConsoleWrite fresh same r stood = (
-  new.input,
-  stop-started Part (start_of h f) (header_text h) l k old new fresh
-      (r.2 (log-stood l k old new fresh same stood)),
-)
+records-stop h f l k old new ConsoleRead fresh same r stood =
+    stop-started Entire (start_of h f) (header_text h) l k old new fresh
+    (r.2 (log-stood l k old new fresh same stood))
+records-stop h f l k old new ConsoleWrite fresh same r stood =
+    stop-started Part (start_of h f) (header_text h) l k old new fresh
+    (r.2 (log-stood l k old new fresh same stood))
 records-stop h f l k old new LogWrite fresh same r stood = tt
 records-stop h f l k old new NoMemory fresh same r stood = tt
 

@@ -1,4 +1,5 @@
 pub mod ReadLemmas
+pub mod Opened
 pub mod Fresh
 pub mod Logs
 pub mod FileHeld

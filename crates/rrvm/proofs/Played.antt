@@ -20,6 +20,7 @@ use Rattle.rr_engine.specs.declared.replaying.ReplayEnd.{ReplayEnd}
 use Rattle.rr_engine.specs.declared.replaying.ReplayEnd.TheVariants.{End, ConsoleWrite, LogRead, LogTooLong, Refused, NoMemory}
 use Rattle.rr_engine.specs.Replaying.{played, Plays, PlaysPart, Replays}
 use Rattle.rr_engine.proofs.Joining.{run-none}
+use Rattle.rrvm.proofs.Opened.{unopened}
 use Rattle.rrvm.specs.Playing.{ShowsOver}
 use Rattle.rrvm.proofs.Ran.{start-quiet}
 
@@ -112,11 +113,6 @@ shows-over start log log' old mid new a b n m end fresh zero w open_ last_ =
       opened = λ more. ap (λ (l : Ledger). at l.last ConsoleOut) back;
       counted = ap (λ (l : Ledger). at l.faults ConsoleOut) back;
     }
-
-unopened : (old new : Ledger) (e : OpenError) → (e ≡ open_error.Failed → ⊥)
-    → (e ≡ open_error.NoMemory → new ≡ old) → new ≡ old
-unopened old new open_error.Failed failed memory = absurd (failed refl)
-unopened old new open_error.NoMemory failed memory = memory refl
 
 both-none : (n : ℕ) → n ≡ both n 0
 both-none n = omega (arith)

@@ -1,11 +1,13 @@
 -- What a run over a world comes to, by how its recording ended.
-use Rattle.std.proofs.Common.{◌≡◌, ◌≤◌, ℕ, Bool, true, false, refl, List, [], length, sym, ap, ◌∙◌, subst, arith}
+use Rattle.std.proofs.Common.{◌≡◌, ◌≤◌, ℕ, Bool, true, false, refl, List, [], ◌∷◌, length, sym, ap, ◌∙◌, subst, arith}
 use Rattle.std.specs.Prelude.{Some, None, IfSome, ◌==◌, if◌then◌else◌}
 use Rattle.std.specs.declared.option.Option.{Option}
 use Rattle.std.proofs.lemmas.Bool.{eqb-true, eqb-false}
 use Rattle.outside.specs.Causes.{Rose, Stood}
 use Rattle.outside.specs.Ledger.{Ledger}
 use Rattle.outside.specs.Roles.{at}
+use Rattle.outside.specs.declared.openings.Opening.{Opening}
+use Rattle.outside.specs.declared.openings.Opening.TheVariants.{Sink}
 use Rattle.outside.specs.declared.roles.Role.TheVariants.{ConsoleIn, ConsoleOut, LogOut, Firmware as FirmwareRole}
 use Rattle.command_line.specs.Words.{Recording, Records}
 use Rattle.elf_load.specs.declared.pieces.Loaded.{Loaded}
@@ -20,8 +22,9 @@ use Rattle.rrvm.specs.declared.recording.RecordingEnd.{RecordingEnd}
 use Rattle.rrvm.specs.declared.recording.RecordingEnd.TheVariants as ends
 use Rattle.rrvm.specs.declared.outcome.Outcome.{Outcome}
 use Rattle.rrvm.specs.declared.outcome.Outcome.TheVariants as outcome
-use Rattle.rrvm.specs.Ledgers.{only}
-use Rattle.rrvm.specs.Firmwares.{IsFirmwareOf}
+use Rattle.rrvm.specs.Ledgers.{only_opening}
+use Rattle.rrvm.specs.Openings.{FailsToOpen}
+use Rattle.rrvm.specs.Firmwares.{IsFirmwareOf, CountsSame}
 use Rattle.rrvm.specs.Recordings.{returned, HasWhole, HasFront, HasStop, IsRecorded, IsRecordedToStop, IsLogged, IsGood}
 use Rattle.rrvm.specs.Headers.{header_of}
 use Rattle.rrvm.specs.Endings.{IfEnds, IfStops}
@@ -49,40 +52,39 @@ logged-as : (start : Loaded) (r : Recording) (file : List ℕ) (old new : Ledger
     (at new.last ConsoleOut) old.input new.clock)
 logged-as firmware r file old new front =
     is_log (start_of (header_of r file) firmware) (header_text (header_of r file))
-    (at new.last LogOut) (at new.last ConsoleOut) old.input front.0 new.clock
-    (start-quiet (header_of r file) firmware) front.1
+    (at new.last LogOut) (at new.last ConsoleOut) old.input (at new.left ConsoleIn) new.clock
+    (start-quiet (header_of r file) firmware) front
 
 -- the ledger once the firmware's file was read
 abbrev pub IsRead : Ledger → Ledger → Type 0
-IsRead old mid = mid ≡ record (only FirmwareRole old mid) { opening_faults = mid.opening_faults }
+IsRead old mid = mid ≡ only_opening FirmwareRole old mid
 
 -- what standard input holds is the same
 front-of : (h : Header) (f : Loaded) (old mid new : Ledger) → IsRead old mid
     → HasFront h f mid new → HasFront h f old new
-front-of h f old mid new read front = (
-  front.0,
-  subst (λ (o : Option (List ℕ)). Front (start_of h f) (header_text h)
-      (told (Some []) (Some []) o (Some [])) (returned new front.0))
-      (ap (λ (l : Ledger). l.input) read) front.1,
-)
+front-of h f old mid new read front =
+    subst (λ (o : Option (List ℕ)). Front (start_of h f) (header_text h)
+    (told (Some []) (Some []) o (Some [])) (returned new)) (ap (λ (l : Ledger). l.input) read) front
 
 whole-of : (h : Header) (f : Loaded) (old mid new : Ledger) (reason code : ℕ) → IsRead old mid
     → HasWhole h f mid new reason code → HasWhole h f old new reason code
-whole-of h f old mid new reason code read whole = (
-  whole.0,
-  subst (λ (o : Option (List ℕ)). Whole (start_of h f) (header_text h)
-      (told (Some []) (Some []) o (Some [])) (returned new whole.0) reason code)
-      (ap (λ (l : Ledger). l.input) read) whole.1,
-)
+whole-of h f old mid new reason code read whole =
+    subst (λ (o : Option (List ℕ)). Whole (start_of h f) (header_text h)
+    (told (Some []) (Some []) o (Some [])) (returned new) reason code)
+    (ap (λ (l : Ledger). l.input) read) whole
 
 stop-of : (shown : Extent) (h : Header) (f : Loaded) (old mid new : Ledger) → IsRead old mid
     → HasStop shown h f mid new → HasStop shown h f old new
-stop-of shown h f old mid new read stop = (
-  stop.0,
-  subst (λ (o : Option (List ℕ)). ToStop shown (start_of h f) (header_text h)
-      (told (Some []) (Some []) o (Some [])) (returned new stop.0))
-      (ap (λ (l : Ledger). l.input) read) stop.1,
-)
+stop-of shown h f old mid new read stop =
+    subst (λ (o : Option (List ℕ)). ToStop shown (start_of h f) (header_text h)
+    (told (Some []) (Some []) o (Some [])) (returned new)) (ap (λ (l : Ledger). l.input) read) stop
+
+front-same : (r : Recording) (file : List ℕ) (f : Firmware) (h : Header) (old mid new : Ledger)
+    → IsFirmwareOf file r.ram_mib f → h ≡ recording_header r f.digest → IsRead old mid
+    → HasFront h f.loaded mid new → HasFront (header_of r file) f.loaded old new
+front-same r file f h old mid new gives same read front =
+    subst (λ (z : Header). HasFront z f.loaded old new) (header-same r file f h same gives)
+    (front-of h f.loaded old mid new read front)
 
 pub run-logged : (held : Option (List ℕ)) (r : Recording) (f : Firmware) (h : Header)
     (old mid new : Ledger) → Gives held r.ram_mib f
@@ -92,9 +94,9 @@ run-logged None r f h old mid new gives same read front = tt
 run-logged (Some file) r f h old mid new gives same read front = record {
   firmware = f.loaded;
   loads = gives.0.loads;
+  front = front-same r file f h old mid new gives.0 same read front;
   log = logged-as f.loaded r file old new
-      (subst (λ (z : Header). HasFront z f.loaded old new) (header-same r file f h same gives.0)
-      (front-of h f.loaded old mid new read front));
+      (front-same r file f h old mid new gives.0 same read front);
 }
 
 run-recorded : (held : Option (List ℕ)) (r : Recording) (f : Firmware) (h : Header)
@@ -165,23 +167,30 @@ by-reason r old new reason code false false e f own k =
     (subst (λ (z : ℕ). IfSome (old.names r.bios) (λ file. IsRecorded r file old new reason z))
     none k)
 
+fails-since : (log : List ℕ) (old mid new : Ledger) → CountsSame old mid
+    → FailsToOpen (Sink LogOut (Some log)) mid new → FailsToOpen (Sink LogOut (Some log)) old new
+fails-since log old mid new same fails = record {
+  counted = subst (λ (z : ℕ). Rose z new.opening_faults) same.opening fails.counted;
+  which = fails.which ∙ ap (λ (z : List Opening). Sink LogOut (Some log) ∷ z) same.refused;
+}
+
 ending-cause : (r : Recording) (old mid new : Ledger) (f : Firmware) (h : Header)
     (end : RecordingEnd) → Gives (old.names r.bios) r.ram_mib f
     → h ≡ recording_header r f.digest
     → IfEnds end (λ reason code. HasWhole h f.loaded mid new reason code)
     → (Stood (at mid.faults LogOut) (at new.faults LogOut)
     → IfStops end (λ shown. HasStop shown h f.loaded mid new))
-    → (end ≡ ends.CannotOpenLog → Rose mid.opening_faults new.opening_faults)
+    → (end ≡ ends.CannotOpenLog → FailsToOpen (Sink LogOut (Some r.log)) mid new)
     → (end ≡ ends.ConsoleUnreadable → Rose (at mid.faults ConsoleIn) (at new.faults ConsoleIn))
     → (end ≡ ends.ConsoleFailed → Rose (at mid.faults ConsoleOut) (at new.faults ConsoleOut))
     → (end ≡ ends.LogFailed → Rose (at mid.faults LogOut) (at new.faults LogOut))
-    → mid.opening_faults ≡ old.opening_faults → IsRead old mid
+    → CountsSame old mid → IsRead old mid
     → Cause (Records r) old new (ending_outcome_of end)
 ending-cause r old mid new f h (ends.End reason code) gives same whole stop a i b c p read =
     by-reason r old new reason code (reason == 0) (reason == 1) refl refl whole.1
     (run-recorded (old.names r.bios) r f h old mid new reason code gives same read whole.0)
 ending-cause r old mid new f h ends.CannotOpenLog gives same whole stop a i b c p read =
-    subst (λ (z : ℕ). Rose z new.opening_faults) p (a refl)
+    fails-since r.log old mid new p (a refl)
 ending-cause r old mid new f h ends.ConsoleUnreadable gives same whole stop a i b c p read = (
   subst (λ (z : ℕ). Rose z (at new.faults ConsoleIn))
       (ap (λ (l : Ledger). at l.faults ConsoleIn) read) (i refl),
@@ -208,11 +217,11 @@ pub run-cause : (r : Recording) (old mid new : Ledger) (f : Firmware) (h : Heade
     → IfEnds end (λ reason code. HasWhole h f.loaded mid new reason code)
     → (Stood (at mid.faults LogOut) (at new.faults LogOut)
     → IfStops end (λ shown. HasStop shown h f.loaded mid new))
-    → (end ≡ ends.CannotOpenLog → Rose mid.opening_faults new.opening_faults)
+    → (end ≡ ends.CannotOpenLog → FailsToOpen (Sink LogOut (Some r.log)) mid new)
     → (end ≡ ends.ConsoleUnreadable → Rose (at mid.faults ConsoleIn) (at new.faults ConsoleIn))
     → (end ≡ ends.ConsoleFailed → Rose (at mid.faults ConsoleOut) (at new.faults ConsoleOut))
     → (end ≡ ends.LogFailed → Rose (at mid.faults LogOut) (at new.faults LogOut))
-    → mid.opening_faults ≡ old.opening_faults → IsRead old mid
+    → CountsSame old mid → IsRead old mid
     → Cause (Records r) old new result
 run-cause r old mid new f h end result is gives same whole stop a i b c p read =
     subst (λ (z : Outcome). Cause (Records r) old new z) (sym is)

@@ -38,6 +38,7 @@ use Rattle.rrvm.specs.declared.images.ImageFault.{ImageFault}
 use Rattle.rrvm.specs.declared.images.ImageFault.TheVariants as image
 use Rattle.rrvm.specs.declared.outcome.Outcome.{Outcome}
 use Rattle.rrvm.specs.declared.outcome.Outcome.TheVariants as outcome
+use Rattle.rrvm.specs.Openings.{firmware_opening, FailsToOpen}
 use Rattle.rrvm.specs.Replays.{HasHeader, is_another, word_difference, IsFirmware, IsBadImage, NamesNoDisk, Starts, IsDifferent, IsReplayed, IsRefusedLog, IsReplayedToLimit, IsUndecided, IsShown, read_of}
 use Rattle.rrvm.proofs.LogLimits.{log-length, read-parts}
 use Rattle.rrvm.specs.Images.{IsImageFault}
@@ -98,7 +99,7 @@ pub image-cause : (w : Replaying) (o rest : Option (List ℕ)) (h : Header) (l m
     (F : Type 0) (e : ImageFault)
     → IsHeader h → Consumes o rest (header_text h) → word_difference w h ≡ None
     → IfSome (l.names w.bios) (λ file. IsImageFault h file e)
-    → (e ≡ image.CannotOpen → Rose l.opening_faults m.opening_faults)
+    → (e ≡ image.CannotOpen → FailsToOpen (firmware_opening w.bios) l m)
     → (e ≡ image.CannotRead → Rose (at l.faults Firmware) (at m.faults Firmware))
     → ReplayCause w o l m F (image_outcome_of e)
 image-cause w o rest h l m F image.CannotOpen is c words k unopened unread = unopened refl

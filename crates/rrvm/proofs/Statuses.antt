@@ -6,15 +6,15 @@ use Rattle.std.proofs.lemmas.Bool.{eqb-true}
 use Rattle.command_line.specs.Number.{number_in}
 use Rattle.std.specs.declared.option.Option.{Option}
 use Rattle.outside.specs.Ledger.{Ledger}
-use Rattle.outside.specs.declared.roles.Role.TheVariants.{Messages}
 use Rattle.command_line.specs.Words.{Recording, Reading, Records, Replays, Demonstrates, Help, Version, Bad, Early, demo_letters, demo_reading, quiet_reading}
 use Rattle.elf_load.specs.declared.error.LoadError.{LoadError}
 use Rattle.rrvm.specs.declared.outcome.Outcome.{Outcome}
-use Rattle.rrvm.specs.declared.outcome.Outcome.TheVariants.{Printed, GuestEnded, IdleForEver, BudgetReached, BadFirmware, NoMemory}
-use Rattle.rrvm.specs.Ledgers.{only, CountsKept}
+use Rattle.rrvm.specs.declared.outcome.Outcome.TheVariants.{Printed, GuestEnded, IdleForEver, BudgetReached, BadFirmware, RecordingStopped, HeaderRefused, LogRefused, NoMemory}
+use Rattle.rrvm.specs.Ledgers.{CountsKept}
+use Rattle.rrvm.specs.Faults.{KeptBut, NamesFault, IsFaultless}
 use Rattle.rrvm.specs.Outcomes.{status_of}
 use Rattle.rrvm.specs.Firmwares.{IsBadFirmware}
-use Rattle.rrvm.specs.Answers.{Cause, RecordCause, Explained, IfRecords, IfRan, IsEnded, IsPrinted, HasRun}
+use Rattle.rrvm.specs.Answers.{Cause, RecordCause, Explained, IfRecords, IfRan, Names, IsEnded, IsPrinted}
 
 ended-eight : (b : Bool) → ◌≡◌ {A = ℕ} (if b then 0 else 10) 8 → ⊥
 ended-eight true e = absurd cc
@@ -151,50 +151,52 @@ quiet-told words old new status x e =
     only-printed (quiet_reading words) old new (quiet words old new)
     (passed-told words (quiet_reading words) old new status x e)
 
--- ---- the counts of a recording that ran
+-- ---- the counts where nothing failed
 
-kept-said : (old mid new : Ledger) → new ≡ only Messages mid new → CountsKept old mid
-    → CountsKept old new
-kept-said old mid new same k =
-    subst (λ (z : Ledger). CountsKept old z) (sym same) (record {
-      opening = k.opening;
-      firmware = k.firmware;
-      input = k.input;
-      console = k.console;
-      log = k.log;
-      replayed_log = k.replayed_log;
-    })
-
-no-run : (status : ℕ) (P : Type 0) → HasRun status → (status ≡ 0 → P) → (status ≡ 10 → P)
-    → (status ≡ 12 → P) → (status ≡ 13 → P) → P
-no-run status P (inl e) a b c d = a e
-no-run status P (inr (inl e)) a b c d = b e
-no-run status P (inr (inr (inl e))) a b c d = c e
-no-run status P (inr (inr (inr e))) a b c d = d e
-
-ran-kept : (r : Recording) (old mid : Ledger) (outcome : Outcome) → RecordCause r old mid outcome
-    → HasRun (status_of outcome)
+record-kept : (r : Recording) (old mid : Ledger) (outcome : Outcome) → RecordCause r old mid outcome
+    → IsFaultless (status_of outcome)
     → IfRan outcome (CountsKept old mid) → CountsKept old mid
-ran-kept r old mid (GuestEnded code) k run kept = kept
-ran-kept r old mid IdleForEver k run kept = kept
-ran-kept r old mid BudgetReached k run kept = kept
-ran-kept r old mid Printed k run kept = absurd k
-ran-kept r old mid outcome k run kept =
-    no-run (status_of outcome) (CountsKept old mid) run (λ e. absurd cc) (λ e. absurd cc)
-    (λ e. absurd cc) (λ e. absurd cc)
+record-kept r old mid (GuestEnded code) k run kept = kept
+record-kept r old mid IdleForEver k run kept = kept
+record-kept r old mid BudgetReached k run kept = kept
+record-kept r old mid Printed k run kept = absurd k
+record-kept r old mid RecordingStopped k run kept = absurd k
+record-kept r old mid (HeaderRefused offset) k run kept = absurd k
+record-kept r old mid (LogRefused refusal) k run kept = absurd k
+record-kept r old mid outcome k run kept = absurd cc
 
-pub unfaulted-told : (line r : Reading) (old mid new : Ledger) (outcome told : Outcome) (status : ℕ)
-    → line ≡ r
-    → new ≡ only Messages mid new → (told ≡ outcome) ⊎ (told ≡ NoMemory)
-    → Cause line old mid outcome
-    → IfRan outcome (CountsKept old mid) → status ≡ status_of told
-    → (words : Recording) → r ≡ Records words → HasRun status → CountsKept old new
-unfaulted-told line r old mid new outcome told status e same (inl t) cause kept is words asks run =
-    kept-said old mid new same
-    (ran-kept words old mid outcome
-    (subst (λ (z : Reading). Cause z old mid outcome) (e ∙ asks) cause)
-    (subst (λ (z : Outcome). HasRun (status_of z)) t (subst HasRun is run)) kept)
-unfaulted-told line r old mid new outcome told status e same (inr t) cause kept is words asks run =
-    let thirty : status ≡ 30 = is ∙ ap status_of t in
-    no-run 30 (CountsKept old new) (subst HasRun thirty run) (λ f. absurd cc) (λ f. absurd cc)
-    (λ f. absurd cc) (λ f. absurd cc)
+all-kept : (old mid : Ledger) → KeptBut None old mid → CountsKept old mid
+all-kept old mid k = record {
+  opening = k.opening (λ e. absurd cc);
+  firmware = k.firmware (λ e. absurd cc);
+  input = k.input (λ e. absurd cc);
+  console = k.console (λ e. absurd cc);
+  log = k.log (λ e. absurd cc);
+  replayed_log = k.replayed_log (λ e. absurd cc);
+}
+
+named-kept : (old mid : Ledger) (outcome : Outcome) → IsFaultless (status_of outcome)
+    → NamesFault outcome old mid → CountsKept old mid
+named-kept old mid (GuestEnded code) run k = all-kept old mid k
+named-kept old mid IdleForEver run k = all-kept old mid k
+named-kept old mid BudgetReached run k = all-kept old mid k
+named-kept old mid Printed run k = all-kept old mid k
+named-kept old mid RecordingStopped run k = all-kept old mid k
+named-kept old mid (HeaderRefused offset) run k = all-kept old mid k
+named-kept old mid (LogRefused refusal) run k = all-kept old mid k
+named-kept old mid outcome run k = absurd cc
+
+names-kept : (r : Reading) (old mid : Ledger) (outcome : Outcome) → Cause r old mid outcome
+    → IsFaultless (status_of outcome) → Names r outcome old mid → CountsKept old mid
+names-kept (Records words) old mid outcome cause run k = record-kept words old mid outcome cause run k
+names-kept (Replays words) old mid outcome cause run k = named-kept old mid outcome run k
+names-kept (Demonstrates n) old mid outcome cause run k = named-kept old mid outcome run k
+names-kept Help old mid outcome cause run k = named-kept old mid outcome run k
+names-kept Version old mid outcome cause run k = named-kept old mid outcome run k
+names-kept (Bad n) old mid outcome cause run k = named-kept old mid outcome run k
+names-kept Early old mid outcome cause run k = named-kept old mid outcome run k
+
+pub unfaulted-told : (words : List (List ℕ)) (r : Reading) (old new : Ledger) (status : ℕ)
+    → Explained words r old new status → IsFaultless status → CountsKept old new
+unfaulted-told words r old new status x run =
+    names-kept r old new x.outcome x.cause (subst IsFaultless x.is_status run) x.named

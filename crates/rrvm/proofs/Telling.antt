@@ -1,5 +1,5 @@
 -- Saying how a run ended changes the messages alone, so its cause stays.
-use Rattle.std.proofs.Common.{◌≡◌, ◌<◌, ◌⊎◌, inl, inr, ℕ, List, [], refl, sym, ap, ◌∙◌, subst}
+use Rattle.std.proofs.Common.{◌≡◌, ◌<◌, ◌^◌, ◌⊎◌, inl, inr, ℕ, List, [], refl, sym, ap, ◌∙◌, subst}
 use Rattle.std.specs.Prelude.{Some, None, IfSome}
 use Rattle.std.specs.declared.option.Option.{Option}
 use Rattle.outside.specs.Causes.{Rose, Stood}
@@ -12,12 +12,16 @@ use Rattle.log_order.specs.declared.refusal.Refusal.{Refusal}
 use Rattle.rr_engine.specs.Input.{Extent, Entire, Part}
 use Rattle.rrvm.specs.declared.outcome.Outcome.{Outcome}
 use Rattle.rrvm.specs.declared.outcome.Outcome.TheVariants.{Printed, GuestEnded, IdleForEver, BudgetReached, BadWord, WordsMissing, CannotOpen, CannotRead, ConsoleUnreadable, ConsoleFailed, LogFailed, LogUnreadable, BadFirmware, RecordingStopped, HeaderRefused, LogRefused, ImagesDiffer, LogTooLong, QuietFailed, NoMemory}
-use Rattle.rrvm.specs.Ledgers.{only, only_run, Named}
+use Rattle.outside.specs.Openings.{OpensFront}
+use Rattle.outside.specs.declared.openings.Opening.{Opening}
+use Rattle.rrvm.specs.Ledgers.{only, only_run, CountsKept, Untouched}
+use Rattle.rrvm.specs.Faults.{Fault, fault_of, KeptBut, NamesFault}
+use Rattle.rrvm.specs.Openings.{openings_of, opening_of, message_openings, FailsToOpen, OpensAsAsked}
 use Rattle.rrvm.specs.Outcomes.{status_of}
 use Rattle.rrvm.specs.Messages.{line_of}
 use Rattle.rrvm.specs.Recordings.{IsRecorded, IsRecordedToStop, IsLogged}
 use Rattle.rrvm.specs.Replays.{IsReplayed, IsRefusedLog, IsReplayedToLimit, IsShown}
-use Rattle.rrvm.specs.Answers.{Cause, RecordCause, ReplayCause, DemoCause, PrintCause, Explained, IfBoth, IfRecords, IfReplays, IfDemonstrates, IsPrinted, IsPrintedFront, log_name, SinksNamed}
+use Rattle.rrvm.specs.Answers.{Cause, RecordCause, ReplayCause, DemoCause, PrintCause, Explained, IfBoth, IfRecords, IfReplays, IfDemonstrates, IfRecording, IfRan, Names, IsPrinted, IsPrintedFront}
 
 -- the ledger after the messages were said
 abbrev said : Ledger → Ledger → Ledger
@@ -104,7 +108,7 @@ logged-stays : (o : Option (List ℕ)) (r : Recording) (old mid new : Ledger)
     → IfSome o (λ file. IsLogged r file old (said mid new))
 logged-stays None r old mid new k = tt
 logged-stays (Some file) r old mid new k = record
-    { firmware = k.firmware; loads = k.loads; log = k.log }
+    { firmware = k.firmware; loads = k.loads; front = k.front; log = k.log }
 
 logs-stay : (r : Reading) (old mid new : Ledger)
     → IfRecords r old (λ words file. IsLogged words file old mid)
@@ -129,6 +133,13 @@ shows-stay Version old mid new k = tt
 shows-stay (Bad n) old mid new k = tt
 shows-stay Early old mid new k = tt
 
+fails-stays : (opening : Opening) (old mid new : Ledger) → FailsToOpen opening old mid
+    → FailsToOpen opening old (said mid new)
+fails-stays opening old mid new k = record { counted = k.counted; which = k.which }
+
+untouched-stays : (old mid new : Ledger) → Untouched old mid → Untouched old (said mid new)
+untouched-stays old mid new k = record { shown = k.shown; read = k.read }
+
 record-stays : (r : Recording) (old mid new : Ledger) (outcome : Outcome)
     → RecordCause r old mid outcome
     → RecordCause r old (said mid new) outcome
@@ -139,7 +150,8 @@ record-stays r old mid new IdleForEver k = recorded-stays (old.names r.bios) r o
 record-stays r old mid new BudgetReached k = recorded-stays (old.names r.bios) r old mid new 2 0 k
 record-stays r old mid new (BadWord number) k = k
 record-stays r old mid new WordsMissing k = k
-record-stays r old mid new (CannotOpen role) k = k
+record-stays r old mid new (CannotOpen role) k =
+    fails-stays (opening_of (Records r) role) old mid new k
 record-stays r old mid new CannotRead k = k
 record-stays r old mid new ConsoleUnreadable k =
     (k.0, k.1, λ stood. stopped-stays (old.names r.bios) r Entire old mid new (k.2 stood))
@@ -168,7 +180,8 @@ replay-stays r log old mid new F BudgetReached k = replayed-stays log (old.names
     0 k
 replay-stays r log old mid new F (BadWord number) k = k
 replay-stays r log old mid new F WordsMissing k = k
-replay-stays r log old mid new F (CannotOpen role) k = k
+replay-stays r log old mid new F (CannotOpen role) k =
+    fails-stays (opening_of (Replays r) role) old mid new k
 replay-stays r log old mid new F CannotRead k = k
 replay-stays r log old mid new F ConsoleUnreadable k = k
 replay-stays r log old mid new F ConsoleFailed k = k
@@ -177,7 +190,8 @@ replay-stays r log old mid new F LogUnreadable k = k
 replay-stays r log old mid new F (BadFirmware rule) k = k
 replay-stays r log old mid new F RecordingStopped k = replayed-stays log (old.names r.bios) r mid
     new 3 0 k
-replay-stays r log old mid new F (HeaderRefused offset) k = k
+replay-stays r log old mid new F (HeaderRefused offset) k =
+    (k.0, untouched-stays old mid new k.1)
 replay-stays r log old mid new F (LogRefused refusal) k = refused-stays log (old.names r.bios) r mid
     new refusal k
 replay-stays r log old mid new F (ImagesDiffer which) k = k
@@ -243,16 +257,81 @@ told-cause r old mid new outcome told same (inl e) k =
 told-cause r old mid new outcome told same (inr e) k = subst (λ (z : Outcome). Cause r old new z)
     (sym e) (no-memory r old new)
 
+-- ---- the faults that are named
+
+kept-stays : (fault : Option Fault) (old mid new : Ledger) → KeptBut fault old mid
+    → KeptBut fault old (said mid new)
+kept-stays fault old mid new k = record {
+  opening = k.opening;
+  firmware = k.firmware;
+  input = k.input;
+  console = k.console;
+  log = k.log;
+  replayed_log = k.replayed_log;
+}
+
+counts-stay : (old mid new : Ledger) → CountsKept old mid → CountsKept old (said mid new)
+counts-stay old mid new k = record {
+  opening = k.opening;
+  firmware = k.firmware;
+  input = k.input;
+  console = k.console;
+  log = k.log;
+  replayed_log = k.replayed_log;
+}
+
+named-stays : (outcome : Outcome) (old mid new : Ledger) → NamesFault outcome old mid
+    → NamesFault outcome old (said mid new)
+named-stays NoMemory old mid new k = tt
+named-stays outcome old mid new k = kept-stays (fault_of outcome) old mid new k
+
+if-ran : (outcome : Outcome) (P Q : Type 0) → (P → Q) → IfRan outcome P → IfRan outcome Q
+if-ran (GuestEnded code) P Q f k = f k
+if-ran IdleForEver P Q f k = f k
+if-ran BudgetReached P Q f k = f k
+if-ran RecordingStopped P Q f k = f k
+if-ran (LogRefused refusal) P Q f k = f k
+if-ran outcome P Q f k = tt
+
+names-stay : (r : Reading) (outcome : Outcome) (old mid new : Ledger) → Names r outcome old mid
+    → Names r outcome old (said mid new)
+names-stay (Records words) outcome old mid new k =
+    if-ran outcome _ _ (counts-stay old mid new) k
+names-stay (Replays words) outcome old mid new k = named-stays outcome old mid new k
+names-stay (Demonstrates n) outcome old mid new k = named-stays outcome old mid new k
+names-stay Help outcome old mid new k = named-stays outcome old mid new k
+names-stay Version outcome old mid new k = named-stays outcome old mid new k
+names-stay (Bad n) outcome old mid new k = named-stays outcome old mid new k
+names-stay Early outcome old mid new k = named-stays outcome old mid new k
+
+names-none : (r : Reading) (old new : Ledger) → Names r NoMemory old new
+names-none (Records words) old new = tt
+names-none (Replays words) old new = tt
+names-none (Demonstrates n) old new = tt
+names-none Help old new = tt
+names-none Version old new = tt
+names-none (Bad n) old new = tt
+names-none Early old new = tt
+
+told-names : (r : Reading) (old mid new : Ledger) (outcome told : Outcome) → new ≡ said mid new
+    → (told ≡ outcome) ⊎ (told ≡ NoMemory) → Names r outcome old mid → Names r told old new
+told-names r old mid new outcome told same (inl e) k =
+    subst (λ (z : Outcome). Names r z old new) (sym e)
+    (subst (λ (z : Ledger). Names r outcome old z) (sym same) (names-stay r outcome old mid new k))
+told-names r old mid new outcome told same (inr e) k =
+    subst (λ (z : Outcome). Names r z old new) (sym e) (names-none r old new)
+
 pub told-explained : (words : List (List ℕ)) (line r : Reading) (old mid new : Ledger)
     (outcome told : Outcome) (status : ℕ) → line ≡ r
     → mid ≡ only_run old mid → new ≡ said mid new → (told ≡ outcome) ⊎ (told ≡ NoMemory)
-    → Cause line old mid outcome
+    → Cause line old mid outcome → Names line outcome old mid
     → (at mid.opened Messages < at new.opened Messages
     → TakesFront (Some []) (at new.last Messages) (line_of words line told))
     → ((told ≡ NoMemory → ⊥) → Stood (at mid.faults Messages) (at new.faults Messages)
     → Takes (Some []) (at new.last Messages) (line_of words line told))
     → status ≡ status_of told → Explained words r old new status
-told-explained words line r old mid new outcome told status e run same which cause front whole is =
+told-explained words line r old mid new outcome told status e run same which cause names front whole
+    is =
     let opened : at mid.opened Messages ≡ at old.opened Messages = ap
     (λ (l : Ledger). at l.opened Messages) run in
     let faults : at mid.faults Messages ≡ at old.faults Messages = ap
@@ -261,6 +340,7 @@ told-explained words line r old mid new outcome told status e run same which cau
       outcome = told;
       is_status = is;
       cause = told-cause line old mid new outcome told same which cause;
+      named = told-names line old mid new outcome told same which names;
       said = λ more. front (subst (λ (z : ℕ). z < at new.opened Messages) (sym opened) more);
       all_said = λ memory stood. whole (λ refused. memory (is ∙ ap status_of refused))
           (subst (λ (z : ℕ). Stood z (at new.faults Messages)) (sym faults) stood);
@@ -315,16 +395,22 @@ told-printed line r old mid new e same prints more =
     (subst (λ (z : Ledger). IfDemonstrates line (λ n. IsPrintedFront n z)) (sym same)
     (printed-stays line mid new told))
 
-pub told-sinks : (line r : Reading) (old mid new : Ledger) → line ≡ r → mid ≡ only_run old mid
-    → new ≡ said mid new → Named LogOut (log_name line) old mid → Named ConsoleOut None old mid
-    → Named Messages None mid new → SinksNamed r old new
-told-sinks line r old mid new e run same log console messages =
-    let opened : at mid.opened Messages ≡ at old.opened Messages = ap
-    (λ (l : Ledger). at l.opened Messages) run in
-    subst (λ (z : Reading). SinksNamed z old new) e
-    (subst (λ (z : Ledger). SinksNamed line old z) (sym same) (record {
-      log = log;
-      console = console;
-      messages = λ more. messages
-          (subst (λ (z : ℕ). z < at new.opened Messages) (sym opened) more);
-    }))
+pub told-openings : (line r : Reading) (old mid new : Ledger) → line ≡ r
+    → OpensFront old.openings mid.openings (openings_of line)
+    → OpensFront mid.openings new.openings message_openings → OpensAsAsked r old new
+told-openings line r old mid new e asked says =
+    subst (λ (z : Reading). OpensAsAsked z old new) e
+    (record { done = mid.openings; asked = asked; said = says })
+
+pub told-untouched : (line r : Reading) (old mid new : Ledger) → line ≡ r → new ≡ said mid new
+    → IfRecording line (at mid.opened LogOut ≡ at old.opened LogOut
+    → at old.opened LogOut < 2 ^ 63 → Untouched old mid)
+    → (words : Recording) → r ≡ Records words → at new.opened LogOut ≡ at old.opened LogOut
+    → at old.opened LogOut < 2 ^ 63 → Untouched old new
+told-untouched line r old mid new e same k words asks unopened few =
+    let opened : at new.opened LogOut ≡ at mid.opened LogOut = ap
+    (λ (l : Ledger). at l.opened LogOut) same in
+    let quiet = subst (λ (z : Reading). IfRecording z (at mid.opened LogOut ≡ at old.opened LogOut
+    → at old.opened LogOut < 2 ^ 63 → Untouched old mid)) (e ∙ asks) k in
+    subst (λ (z : Ledger). Untouched old z) (sym same)
+    (untouched-stays old mid new (quiet (sym opened ∙ unopened) few))

@@ -12,7 +12,9 @@ use Rattle.rr_engine.specs.Input.{Extent, Entire, Part}
 use Rattle.rrvm.specs.declared.outcome.Outcome.{Outcome}
 use Rattle.rrvm.specs.declared.outcome.Outcome.TheVariants.{Printed, GuestEnded, IdleForEver, BudgetReached, BadWord, WordsMissing, CannotOpen, CannotRead, ConsoleUnreadable, ConsoleFailed, LogFailed, LogUnreadable, BadFirmware, RecordingStopped, HeaderRefused, LogRefused, ImagesDiffer, LogTooLong, QuietFailed, NoMemory}
 use Rattle.rrvm.specs.declared.printing.TheConstants.{HELP, VERSION}
-use Rattle.rrvm.specs.Ledgers.{Named}
+use Rattle.rrvm.specs.Ledgers.{CountsKept, Untouched}
+use Rattle.rrvm.specs.Faults.{NamesFault}
+use Rattle.rrvm.specs.Openings.{opening_of, FailsToOpen}
 use Rattle.rrvm.specs.Outcomes.{status_of}
 use Rattle.rrvm.specs.Demos.{Demonstration, demo_line}
 use Rattle.rrvm.specs.Firmwares.{IsBadFirmware}
@@ -34,6 +36,11 @@ IfBoth xs ys P = ⊤
 abbrev pub IfReplays : Reading → Ledger → (Replaying → List ℕ → List ℕ → Type 0) → Type 0
 IfReplays (Replays r) l P = IfBoth (l.names r.log) (l.names r.bios) (λ log file. P r log file)
 IfReplays other l P = ⊤
+
+-- what holds where the words ask for a recording
+abbrev pub IfRecording : Reading → Type 0 → Type 0
+IfRecording (Records r) P = P
+IfRecording other P = ⊤
 
 -- the words ask for a replay
 abbrev pub AsksReplay : Reading → Type 0
@@ -58,18 +65,6 @@ abbrev pub IfDemonstrates : Reading → (ℕ → Type 0) → Type 0
 IfDemonstrates (Demonstrates n) P = P n
 IfDemonstrates other P = ⊤
 
--- the name under which the words let a log be recorded
-abbrev pub log_name : Reading → Option (List ℕ)
-log_name (Records r) = Some r.log
-log_name other = None
-
--- The log is recorded under the name that the words give; the console and the messages have none,
--- and are the process's own.
-pub record SinksNamed (r : Reading) (old new : Ledger) : Type 0 where
-  pub log : Named LogOut (log_name r) old new
-  pub console : Named ConsoleOut None old new
-  pub messages : Named Messages None old new
-
 -- The machine's run ended by this reason and code: of a recording, whose log is whole, or of a
 -- replay, whose log was accepted whole.
 abbrev pub IsEnded : Reading → Ledger → Ledger → ℕ → ℕ → Type 0
@@ -89,7 +84,7 @@ abbrev pub RecordCause : Recording → Ledger → Ledger → Outcome → Type 0
 RecordCause r old new (GuestEnded code) = IsEnded (Records r) old new 0 code
 RecordCause r old new IdleForEver = IsEnded (Records r) old new 1 0
 RecordCause r old new BudgetReached = IsEnded (Records r) old new 2 0
-RecordCause r old new (CannotOpen role) = Rose old.opening_faults new.opening_faults
+RecordCause r old new (CannotOpen role) = FailsToOpen (opening_of (Records r) role) old new
 RecordCause r old new CannotRead = Rose (at old.faults Firmware) (at new.faults Firmware)
 RecordCause r old new ConsoleUnreadable =
     Rose (at old.faults ConsoleIn) (at new.faults ConsoleIn)
@@ -117,7 +112,7 @@ ReplayCause r log old new failed BudgetReached =
     IfBoth log (old.names r.bios) (λ bytes file. IsReplayed r bytes file new 2 0)
 ReplayCause r log old new failed RecordingStopped =
     IfBoth log (old.names r.bios) (λ bytes file. IsReplayed r bytes file new 3 0)
-ReplayCause r log old new failed (CannotOpen role) = Rose old.opening_faults new.opening_faults
+ReplayCause r log old new failed (CannotOpen role) = FailsToOpen (opening_of (Replays r) role) old new
 ReplayCause r log old new failed CannotRead = Rose (at old.faults Firmware) (at new.faults Firmware)
 ReplayCause r log old new failed ConsoleFailed =
     Rose (at old.faults ConsoleOut) (at new.faults ConsoleOut)
@@ -127,7 +122,7 @@ ReplayCause r log old new failed (BadFirmware rule) =
     IfBoth log (old.names r.bios) (λ bytes file.
     (h : Header) × HasHeader bytes h × (word_difference r h ≡ None) × IsBadImage h file rule)
 ReplayCause r log old new failed (HeaderRefused offset) =
-    IfSome log (λ bytes. IsBadHeader bytes offset)
+    IfSome log (λ bytes. IsBadHeader bytes offset) × Untouched old new
 ReplayCause r log old new failed (LogRefused refusal) =
     IfBoth log (old.names r.bios) (λ bytes file. IsRefusedLog r bytes file new refusal)
 ReplayCause r log old new failed (ImagesDiffer which) =
@@ -164,18 +159,6 @@ Cause Version old new outcome = PrintCause Version old new outcome
 Cause (Bad k) old new outcome = (outcome ≡ BadWord k) ⊎ (outcome ≡ NoMemory)
 Cause Early old new outcome = (outcome ≡ WordsMissing) ⊎ (outcome ≡ NoMemory)
 
--- The status, what it came by, and what the messages took: a front of the status's line, and all of
--- it where the messages counted no fault and memory wasn't refused.
-pub record Explained (words : List (List ℕ)) (r : Reading) (old new : Ledger) (status : ℕ)
-    : Type 0 where
-  pub outcome : Outcome
-  pub is_status : status ≡ status_of outcome
-  pub cause : Cause r old new outcome
-  pub said : at old.opened Messages < at new.opened Messages
-      → TakesFront (Some []) (at new.last Messages) (line_of words r outcome)
-  pub all_said : (status ≡ 30 → ⊥) → Stood (at old.faults Messages) (at new.faults Messages)
-      → Takes (Some []) (at new.last Messages) (line_of words r outcome)
-
 -- what holds where the machine ran to an end, or to the log's first wrong event
 abbrev pub IfRan : Outcome → Type 0 → Type 0
 IfRan (GuestEnded code) P = P
@@ -184,6 +167,25 @@ IfRan BudgetReached P = P
 IfRan RecordingStopped P = P
 IfRan (LogRefused refusal) P = P
 IfRan other P = ⊤
+
+-- The outcome names each fault that was counted; of a recording this is said where the machine ran
+-- to an end.
+abbrev pub Names : Reading → Outcome → Ledger → Ledger → Type 0
+Names (Records r) outcome old new = IfRan outcome (CountsKept old new)
+Names other outcome old new = NamesFault outcome old new
+
+-- The status, what it came by, and no other fault, and what the messages took: a front of the status's line, and all of
+-- it where the messages counted no fault and memory wasn't refused.
+pub record Explained (words : List (List ℕ)) (r : Reading) (old new : Ledger) (status : ℕ)
+    : Type 0 where
+  pub outcome : Outcome
+  pub is_status : status ≡ status_of outcome
+  pub cause : Cause r old new outcome
+  pub named : Names r outcome old new
+  pub said : at old.opened Messages < at new.opened Messages
+      → TakesFront (Some []) (at new.last Messages) (line_of words r outcome)
+  pub all_said : (status ≡ 30 → ⊥) → Stood (at old.faults Messages) (at new.faults Messages)
+      → Takes (Some []) (at new.last Messages) (line_of words r outcome)
 
 -- the words leave the grammar
 abbrev pub IsWordFault : Outcome → Type 0

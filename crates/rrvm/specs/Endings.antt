@@ -35,7 +35,7 @@ pub record IsFresh (l : Ledger) (d : Devices) : Type 0 where
 -- the devices were given back
 abbrev pub closed : Ledger → Devices → Ledger
 closed l d =
-    clock_back (sink_back (sink_back (source_back l ConsoleIn d.input_faults)
+    clock_back (sink_back (sink_back (source_back l ConsoleIn d.input_faults d.input)
     LogOut d.log_faults d.log) ConsoleOut d.console_faults d.console) d.gave
 
 -- why a device wasn't opened

@@ -36,4 +36,5 @@ IsRefusedFile file mib other = Unit {0}
 -- the counts of openings and of the firmware's source are what they were
 pub record CountsSame (old new : Ledger) : Type 0 where
   pub opening : new.opening_faults ≡ old.opening_faults
+  pub refused : new.refused ≡ old.refused
   pub firmware : at new.faults FirmwareRole ≡ at old.faults FirmwareRole

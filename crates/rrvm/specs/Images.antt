@@ -1,11 +1,12 @@
 -- What the firmware's file of a replay gives.
-use Rattle.std.specs.Prelude.{◌≡◌, ◌≢◌, ℕ, List, [], Result, Ok, Err}
+use Rattle.std.specs.Prelude.{◌≡◌, ◌≢◌, ◌≤◌, ℕ, List, [], length, Result, Ok, Err}
 use Rattle.sha2.specs.Sha256.{sha256}
 use Rattle.elf_load.specs.declared.pieces.Loaded.{Loaded}
 use Rattle.elf_load.specs.Load.{loaded}
 use Rattle.event_log.specs.declared.header.Header.{Header}
 use Rattle.rrvm.specs.declared.images.ImageFault.{ImageFault}
 use Rattle.rrvm.specs.declared.images.ImageFault.TheVariants.{OtherFirmware, Bad, OtherDiskLength, OtherDisk, NoMemory}
+use Rattle.rrvm.specs.declared.firmware.TheConstants.{FIRMWARE_LIMIT}
 use Rattle.rrvm.specs.Replays.{NamesNoDisk, IsFirmware, IsBadImage}
 
 -- the bytes are the header's firmware, and load
@@ -29,7 +30,7 @@ ImageGives h file (Err other) = ⊥
 
 -- why a file that holds these bytes isn't the image
 abbrev pub IsImageFault : Header → List ℕ → ImageFault → Type 0
-IsImageFault h file OtherFirmware = sha256 file ≢ h.firmware
+IsImageFault h file OtherFirmware = (sha256 file ≢ h.firmware) × (length file ≤ FIRMWARE_LIMIT)
 IsImageFault h file (Bad rule) = IsBadImage h file rule
 IsImageFault h file OtherDiskLength =
     ((firmware : Loaded) × IsFirmware h file firmware) × (h.disk_len ≢ 0)

@@ -1,26 +1,35 @@
 -- What a run may change of a world, role by role.
-use Rattle.std.specs.Prelude.{◌≡◌, ◌+◌, ◌-◌, ◌<◌, ◌≤◌, ◌^◌, ℕ, List}
-use Rattle.std.specs.declared.option.Option.{Option}
+use Rattle.std.specs.Prelude.{◌≡◌, ◌+◌, ◌-◌, ◌<◌, ◌≤◌, ◌^◌}
 use Rattle.outside.specs.Causes.{Stood}
-use Rattle.outside.specs.Ledger.{Ledger}
+use Rattle.outside.specs.Ledger.{Ledger, StartsEmpty}
 use Rattle.outside.specs.Roles.{at, put}
 use Rattle.outside.specs.declared.roles.Role.{Role}
 use Rattle.outside.specs.declared.roles.Role.TheVariants.{ConsoleIn, ConsoleOut, LogIn, LogOut, Firmware}
 
--- the old ledger with the counts and the bytes of one role from the new
+-- the old ledger with what was opened, and with the counts and the bytes of one role, from the new
 abbrev pub only : Role → Ledger → Ledger → Ledger
 only role old new = record old {
   faults = put old.faults role (at new.faults role);
   opened = put old.opened role (at new.opened role);
   returned = put old.returned role (at new.returned role);
-  sinks = put old.sinks role (at new.sinks role);
+  openings = new.openings;
+  left = put old.left role (at new.left role);
   last = put old.last role (at new.last role);
+}
+
+-- the same, where an opening may have failed
+abbrev pub only_opening : Role → Ledger → Ledger → Ledger
+only_opening role old new = record (only role old new) {
+  opening_faults = new.opening_faults;
+  refused = new.refused;
 }
 
 -- the old ledger with what the new says of openings and of clocks
 abbrev pub only_shared : Ledger → Ledger → Ledger
 only_shared old new = record old {
+  openings = new.openings;
   opening_faults = new.opening_faults;
+  refused = new.refused;
   clocks_opened = new.clocks_opened;
   clocks_returned = new.clocks_returned;
   clock = new.clock;
@@ -35,9 +44,11 @@ only_recording old new =
 abbrev pub only_run : Ledger → Ledger → Ledger
 only_run old new = only LogIn (only_recording (only Firmware old new) new) new
 
--- where a sink of the role was opened, the last was opened under that name
-abbrev pub Named : Role → Option (List ℕ) → Ledger → Ledger → Type 0
-Named role name old new = at old.opened role < at new.opened role → at new.sinks role ≡ name
+-- nothing was shown on the console, and nothing was read of standard input
+pub record Untouched (old new : Ledger) : Type 0 where
+  pub shown : at old.opened ConsoleOut < at new.opened ConsoleOut
+      → StartsEmpty (at new.last ConsoleOut)
+  pub read : at old.opened ConsoleIn < at new.opened ConsoleIn → at new.left ConsoleIn ≡ old.input
 
 -- what was opened of a role was given back, and at most one was
 pub record Balanced (role : Role) (old new : Ledger) : Type 0 where

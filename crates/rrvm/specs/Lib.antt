@@ -1,5 +1,7 @@
 pub mod Ledgers
+pub mod Openings
 pub mod Outcomes
+pub mod Faults
 pub mod Firmwares
 pub mod Endings
 pub mod Guests
@@ -9,6 +11,7 @@ pub mod Recordings
 pub mod Asking
 pub mod Texts
 pub mod Messages
+pub mod RawWords
 pub mod Replays
 pub mod Images
 pub mod Playing

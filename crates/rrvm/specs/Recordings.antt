@@ -3,7 +3,7 @@ use Rattle.std.specs.Prelude.{◌≡◌, ◌≤◌, ℕ, List, [], length, Some,
 use Rattle.std.specs.declared.option.Option.{Option}
 use Rattle.outside.specs.Ledger.{Ledger}
 use Rattle.outside.specs.Roles.{at}
-use Rattle.outside.specs.declared.roles.Role.TheVariants.{ConsoleOut, LogOut}
+use Rattle.outside.specs.declared.roles.Role.TheVariants.{ConsoleIn, ConsoleOut, LogOut}
 use Rattle.command_line.specs.Words.{Recording}
 use Rattle.elf_load.specs.declared.pieces.Loaded.{Loaded}
 use Rattle.elf_load.specs.Load.{loaded}
@@ -27,14 +27,14 @@ opened_with l = record {
   gave = Some [];
 }
 
--- the same when they were given back, where the console's input had this left
-abbrev pub returned : Ledger → Option (List ℕ) → Devices
-returned l left = record {
+-- the same when they were given back
+abbrev pub returned : Ledger → Devices
+returned l = record {
   log = at l.last LogOut;
   log_faults = 0;
   console = at l.last ConsoleOut;
   console_faults = 0;
-  input = left;
+  input = at l.left ConsoleIn;
   input_faults = 0;
   gave = l.clock;
 }
@@ -43,22 +43,19 @@ returned l left = record {
 -- console has the machine's bytes, and its input and the clock gave what the events have.
 abbrev pub HasWhole : Header → Loaded → Ledger → Ledger → ℕ → ℕ → Type 0
 HasWhole h firmware old new reason code =
-    (left : Option (List ℕ)) × Whole (start_of h firmware) (header_text h) (opened_with old)
-    (returned new left) reason code
+    Whole (start_of h firmware) (header_text h) (opened_with old) (returned new) reason code
 
 -- the same, broken off: the log has a front of that, and the console too
 abbrev pub HasFront : Header → Loaded → Ledger → Ledger → Type 0
 HasFront h firmware old new =
-    (left : Option (List ℕ)) × Front (start_of h firmware) (header_text h) (opened_with old)
-    (returned new left)
+    Front (start_of h firmware) (header_text h) (opened_with old) (returned new)
 
 -- The same, where the console or its input stopped the run: the log has all of the events, and END 3
 -- is the last; or, where the console wasn't shown all, an END of the machine's own was due, and the
 -- log has none.
 abbrev pub HasStop : Extent → Header → Loaded → Ledger → Ledger → Type 0
 HasStop shown h firmware old new =
-    (left : Option (List ℕ)) × ToStop shown (start_of h firmware) (header_text h) (opened_with old)
-    (returned new left)
+    ToStop shown (start_of h firmware) (header_text h) (opened_with old) (returned new)
 
 -- the log of the words' recording of a file is whole
 pub record IsRecorded (r : Recording) (file : List ℕ) (old new : Ledger) (reason code : ℕ)
@@ -76,10 +73,12 @@ pub record IsRecordedToStop (r : Recording) (file : List ℕ) (shown : Extent) (
   pub fits : length file ≤ FIRMWARE_LIMIT
   pub stop : HasStop shown (header_of r file) firmware old new
 
--- the log that was taken is one of the words' recording of a file, whole or broken off
+-- The log that was taken is one of the words' recording of a file, whole or broken off, and the
+-- console and its input go with it.
 pub record IsLogged (r : Recording) (file : List ℕ) (old new : Ledger) : Type 0 where
   pub firmware : Loaded
   pub loads : loaded file r.ram_mib ≡ Ok firmware
+  pub front : HasFront (header_of r file) firmware old new
   pub log : IfSome (at new.last LogOut) (λ bytes.
       IsLogOf (start_of (header_of r file) firmware) (header_text (header_of r file)) bytes
       (at new.last ConsoleOut) old.input new.clock)

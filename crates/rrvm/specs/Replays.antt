@@ -145,7 +145,8 @@ abbrev pub IsDifferent : Replaying → Header → Option (List ℕ) → Differen
 IsDifferent r h held Shift = word_difference r h ≡ Some Shift
 IsDifferent r h held Ram = word_difference r h ≡ Some Ram
 IsDifferent r h held Firmware =
-    (word_difference r h ≡ None) × IfSome held (λ file. sha256 file ≢ h.firmware)
+    (word_difference r h ≡ None)
+    × IfSome held (λ file. (sha256 file ≢ h.firmware) × (length file ≤ FIRMWARE_LIMIT))
 IsDifferent r h held DiskLength =
     (word_difference r h ≡ None)
     × IfSome held (λ file. ((firmware : Loaded) × IsFirmware h file firmware) × (h.disk_len ≢ 0))

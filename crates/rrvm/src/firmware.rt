@@ -1,12 +1,14 @@
 //! The firmware's file: read whole, digested and loaded.
 
-ghost use Rattle.std.specs.Prelude.{◌≡◌, ◌≤◌, ◌<◌, length, Ok, Err, IfOk, IfErr, IfSome, OnOk, OnErr, IsErrOf};
+ghost use Rattle.std.specs.Prelude.{◌≡◌, ◌≤◌, ◌<◌, [], ◌∷◌, length, Ok, Err, IfOk, IfErr, IfSome, OnOk, OnErr, IsErrOf};
 ghost use Rattle.sha2.specs.Sha256.{sha256};
 ghost use Rattle.outside.specs.Causes.{Rose};
 ghost use Rattle.outside.specs.Roles.{at};
 ghost use Rattle.outside.specs.declared.roles.Role.TheVariants.{Firmware as FirmwareRole};
 ghost use Rattle.elf_load.specs.Load.{loaded, LiesInRam};
-ghost use Rattle.rrvm.specs.Ledgers.{only, Balanced};
+ghost use Rattle.outside.specs.Openings.{Opens, OpensFront};
+ghost use Rattle.rrvm.specs.Ledgers.{only_opening, Balanced};
+ghost use Rattle.rrvm.specs.Openings.{firmware_opening, FailsToOpen};
 ghost use Rattle.rrvm.specs.Firmwares.{IsRefused, IsRefusedFile, IsFirmwareOf, CountsSame};
 
 use crate::read_all::{ReadError, read_all};
@@ -72,6 +74,7 @@ pub(crate) enum FileFault {
 }
 
 /// Reads a firmware's file whole.
+#[tactic(auto, using(outside::proofs::Fronts::openings))]
 pub(crate) fn read_file<W: World>(
     alloc: Global,
     name: &str,
@@ -84,16 +87,23 @@ pub(crate) fn read_file<W: World>(
 
     ensures long { IsErrOf result FileFault.TooLong → IfSome ((W.ledger world.old).names name.now)
         (λ file. FIRMWARE_LIMIT < length file) }
-    ensures unopened { IsErrOf result FileFault.CannotOpen
-        → Rose (W.ledger world.old).opening_faults (W.ledger world.new).opening_faults }
+    ensures unopened { IsErrOf result FileFault.CannotOpen → FailsToOpen (firmware_opening name.now)
+        (W.ledger world.old) (W.ledger world.new) }
     ensures unread { IsErrOf result FileFault.CannotRead
         → Rose (at (W.ledger world.old).faults FirmwareRole)
         (at (W.ledger world.new).faults FirmwareRole) }
 
+    ensures openings { OpensFront (W.ledger world.old).openings (W.ledger world.new).openings
+        (firmware_opening name.now ∷ []) }
+    ensures opened { OnOk result (Opens (W.ledger world.old).openings
+        (W.ledger world.new).openings (firmware_opening name.now ∷ [])) }
+    ensures opening_kept { (IsErrOf result FileFault.CannotOpen → ⊥)
+        → (W.ledger world.new).opening_faults ≡ (W.ledger world.old).opening_faults }
+    ensures source_kept { (IsErrOf result FileFault.CannotRead → ⊥)
+        → at (W.ledger world.new).faults FirmwareRole ≡ at (W.ledger world.old).faults FirmwareRole }
     ensures balanced { Balanced FirmwareRole (W.ledger world.old) (W.ledger world.new) }
     ensures rest { W.ledger world.new
-        ≡ record (only FirmwareRole (W.ledger world.old) (W.ledger world.new))
-        { opening_faults = (W.ledger world.new).opening_faults } }
+        ≡ only_opening FirmwareRole (W.ledger world.old) (W.ledger world.new) }
 {
     let mut source = match world.source(Role::Firmware, Some(name)) {
         Ok(source) => source,
@@ -124,16 +134,23 @@ pub(crate) fn read_firmware<W: World>(
 
     ensures refused { IfErr result (λ e. IfSome ((W.ledger world.old).names name.now)
         (λ file. IsRefusedFile file ram_mib e)) }
-    ensures unopened { IsErrOf result FirmwareFault.CannotOpen
-        → Rose (W.ledger world.old).opening_faults (W.ledger world.new).opening_faults }
+    ensures unopened { IsErrOf result FirmwareFault.CannotOpen → FailsToOpen (firmware_opening name.now)
+        (W.ledger world.old) (W.ledger world.new) }
     ensures unread { IsErrOf result FirmwareFault.CannotRead
         → Rose (at (W.ledger world.old).faults FirmwareRole)
         (at (W.ledger world.new).faults FirmwareRole) }
 
+    ensures openings { OpensFront (W.ledger world.old).openings (W.ledger world.new).openings
+        (firmware_opening name.now ∷ []) }
+    ensures opened { OnOk result (Opens (W.ledger world.old).openings
+        (W.ledger world.new).openings (firmware_opening name.now ∷ [])) }
+    ensures opening_kept { (IsErrOf result FirmwareFault.CannotOpen → ⊥)
+        → (W.ledger world.new).opening_faults ≡ (W.ledger world.old).opening_faults }
+    ensures source_kept { (IsErrOf result FirmwareFault.CannotRead → ⊥)
+        → at (W.ledger world.new).faults FirmwareRole ≡ at (W.ledger world.old).faults FirmwareRole }
     ensures balanced { Balanced FirmwareRole (W.ledger world.old) (W.ledger world.new) }
     ensures rest { W.ledger world.new
-        ≡ record (only FirmwareRole (W.ledger world.old) (W.ledger world.new))
-        { opening_faults = (W.ledger world.new).opening_faults } }
+        ≡ only_opening FirmwareRole (W.ledger world.old) (W.ledger world.new) }
 {
     match read_file(alloc, name, world) {
         Ok(file) => firmware_of(alloc, &file, ram_mib),

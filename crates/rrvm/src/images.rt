@@ -1,11 +1,13 @@
 //! The images of a replay: those that its log's header names.
 
-ghost use Rattle.std.specs.Prelude.{◌≡◌, ◌≢◌, ◌≤◌, true, false, IfOk, IfErr, IfSome, OnOk, IsErrOf};
+ghost use Rattle.std.specs.Prelude.{◌≡◌, ◌≢◌, ◌≤◌, [], ◌∷◌, true, false, IfOk, IfErr, IfSome, OnOk, IsErrOf};
 ghost use Rattle.outside.specs.Causes.{Rose};
 ghost use Rattle.outside.specs.Roles.{at};
 ghost use Rattle.outside.specs.declared.roles.Role.TheVariants.{Firmware as FirmwareRole};
 ghost use Rattle.elf_load.specs.Load.{LiesInRam};
-ghost use Rattle.rrvm.specs.Ledgers.{only, Balanced};
+ghost use Rattle.outside.specs.Openings.{Opens, OpensFront};
+ghost use Rattle.rrvm.specs.Ledgers.{only_opening, Balanced};
+ghost use Rattle.rrvm.specs.Openings.{firmware_opening, FailsToOpen};
 ghost use Rattle.rrvm.specs.Firmwares.{CountsSame};
 ghost use Rattle.rrvm.specs.Replays.{NamesNoDisk, IsFirmware};
 ghost use Rattle.rrvm.specs.Images.{ImageGives, IsImageFault};
@@ -78,16 +80,23 @@ pub(crate) fn read_image<W: World>(
 
     ensures refused { IfErr result (λ e. IfSome ((W.ledger world.old).names name.now)
         (λ file. IsImageFault header.now file e)) }
-    ensures unopened { IsErrOf result ImageFault.CannotOpen
-        → Rose (W.ledger world.old).opening_faults (W.ledger world.new).opening_faults }
+    ensures unopened { IsErrOf result ImageFault.CannotOpen → FailsToOpen (firmware_opening name.now)
+        (W.ledger world.old) (W.ledger world.new) }
     ensures unread { IsErrOf result ImageFault.CannotRead
         → Rose (at (W.ledger world.old).faults FirmwareRole)
         (at (W.ledger world.new).faults FirmwareRole) }
 
+    ensures openings { OpensFront (W.ledger world.old).openings (W.ledger world.new).openings
+        (firmware_opening name.now ∷ []) }
+    ensures opened { OnOk result (Opens (W.ledger world.old).openings
+        (W.ledger world.new).openings (firmware_opening name.now ∷ [])) }
+    ensures opening_kept { (IsErrOf result ImageFault.CannotOpen → ⊥)
+        → (W.ledger world.new).opening_faults ≡ (W.ledger world.old).opening_faults }
+    ensures source_kept { (IsErrOf result ImageFault.CannotRead → ⊥)
+        → at (W.ledger world.new).faults FirmwareRole ≡ at (W.ledger world.old).faults FirmwareRole }
     ensures balanced { Balanced FirmwareRole (W.ledger world.old) (W.ledger world.new) }
     ensures rest { W.ledger world.new
-        ≡ record (only FirmwareRole (W.ledger world.old) (W.ledger world.new))
-        { opening_faults = (W.ledger world.new).opening_faults } }
+        ≡ only_opening FirmwareRole (W.ledger world.old) (W.ledger world.new) }
 {
     match read_file(alloc, name, world) {
         Ok(file) => image_of(alloc, header, &file),

@@ -15,6 +15,7 @@ mod message;
 mod outcome;
 mod printing;
 mod quiet;
+mod raw_word;
 mod read_all;
 mod recording;
 mod replaying;
@@ -23,38 +24,24 @@ mod run;
 mod tests;
 mod texts;
 mod top;
+mod words;
 
 use outside::HostWorld;
-use std::alloc::AllocError;
-use std::env;
-use std::io::ErrorKind;
+use raw_word::rrvm_raw;
 use std::process::ExitCode;
 use top::rrvm_main;
+use words::{Given, given_words};
 
-/// The words after the program's name. Where one isn't UTF-8 there are none.
-fn words(rt: HostRuntime) -> Result<Vec<String>, AllocError> {
-    let mut words = Vec::new(rt.alloc());
-    match env::args(&rt) {
-        Ok(args) => {
-            for word in args.skip(1) {
-                words.push(word)?;
-            }
-        }
-        Err(error) => {
-            if error.kind() == ErrorKind::OutOfMemory {
-                return Err(AllocError);
-            }
-        }
-    }
-    Ok(words)
-}
-
+// The world comes first, as it keeps standard streams that are closed.
 fn main(rt: HostRuntime) -> ExitCode {
-    match words(rt) {
-        Ok(words) => {
-            let mut world = HostWorld::new(rt);
-            ExitCode::from(rrvm_main(&rt, &words, &mut world).code)
-        }
-        Err(_) => ExitCode::from(30),
-    }
+    let mut world = HostWorld::new(rt);
+    let Ok(given) = given_words(rt) else {
+        return ExitCode::from(30);
+    };
+    let Given { texts, raw } = given;
+    let status = match raw {
+        None => rrvm_main(&rt, &texts, &mut world),
+        Some(raw) => rrvm_raw(rt.alloc(), &texts, &raw, &mut world),
+    };
+    ExitCode::from(status.code)
 }

@@ -76,7 +76,8 @@ fn difference_name(difference: Difference) -> &'static str
     }
 }
 
-fn word(words: &[String], number: usize) -> &str
+/// The word of that number, from 0.
+pub(crate) fn word(words: &[String], number: usize) -> &str
     ensures { result.now ≡ word_of (map string_bytes words.now) number }
 {
     match words.get(number) {

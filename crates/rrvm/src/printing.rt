@@ -1,11 +1,13 @@
 //! The texts that are printed alone.
 
-ghost use Rattle.std.specs.Prelude.{◌≡◌, ◌<◌, Some, None, [], OnOk, IsErrOf};
+ghost use Rattle.std.specs.Prelude.{◌≡◌, ◌<◌, Some, [], OnOk, IsErrOf};
 ghost use Rattle.outside.specs.Causes.{Rose};
 ghost use Rattle.outside.specs.Told.{Takes, TakesFront};
 ghost use Rattle.outside.specs.Roles.{at};
 ghost use Rattle.outside.specs.declared.roles.Role.TheVariants.{ConsoleOut};
-ghost use Rattle.rrvm.specs.Ledgers.{only, Balanced, Named};
+ghost use Rattle.outside.specs.Openings.{OpensFront};
+ghost use Rattle.rrvm.specs.Ledgers.{only, Balanced};
+ghost use Rattle.rrvm.specs.Openings.{console_openings};
 
 use outside::{Careful, Role, World};
 
@@ -59,7 +61,7 @@ pub(crate) enum PrintFault {
 }
 
 /// Prints a text to standard output.
-#[tactic(auto, using(outside::proofs::Fronts::starts))]
+#[tactic(auto, using(outside::proofs::Fronts::starts, outside::proofs::Fronts::openings))]
 pub(crate) fn print<W: World>(text: &str, world: &mut W) -> Result<(), PrintFault>
     ensures whole { OnOk result
         (Takes (Some []) (at (W.ledger world.new).last ConsoleOut) text.now) }
@@ -70,7 +72,8 @@ pub(crate) fn print<W: World>(text: &str, world: &mut W) -> Result<(), PrintFaul
     ensures failed { IsErrOf result PrintFault.Failed
         → Rose (at (W.ledger world.old).faults ConsoleOut)
         (at (W.ledger world.new).faults ConsoleOut) }
-    ensures named { Named ConsoleOut None (W.ledger world.old) (W.ledger world.new) }
+    ensures openings { OpensFront (W.ledger world.old).openings (W.ledger world.new).openings
+        console_openings }
     ensures balanced { Balanced ConsoleOut (W.ledger world.old) (W.ledger world.new) }
     ensures rest { W.ledger world.new ≡ only ConsoleOut (W.ledger world.old) (W.ledger world.new) }
 {

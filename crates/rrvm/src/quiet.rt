@@ -1,11 +1,14 @@
 //! The commands that need no threads.
 
-ghost use Rattle.std.specs.Prelude.{◌≡◌, ◌<◌, ◌≤◌, ◌⊎◌, None};
+ghost use Rattle.std.specs.Prelude.{◌≡◌, ◌<◌, ◌≤◌, ◌⊎◌};
 ghost use Rattle.outside.specs.Causes.{Rose};
 ghost use Rattle.outside.specs.Roles.{at};
 ghost use Rattle.outside.specs.declared.roles.Role.TheVariants.{ConsoleOut};
 ghost use Rattle.command_line.specs.Words.{Demonstrates};
-ghost use Rattle.rrvm.specs.Ledgers.{only, Balanced, Named};
+ghost use Rattle.outside.specs.Openings.{OpensFront};
+ghost use Rattle.rrvm.specs.Faults.{NamesFault};
+ghost use Rattle.rrvm.specs.Ledgers.{only, Balanced};
+ghost use Rattle.rrvm.specs.Openings.{console_openings};
 ghost use Rattle.rrvm.specs.Answers.{IsPrinted, IsPrintedFront};
 
 use crate::demo::demo_text;
@@ -35,7 +38,9 @@ pub(crate) fn demonstrate<W: World, L: Ledger>(
     ensures front { at (W.ledger world.old).opened ConsoleOut
         < at (W.ledger world.new).opened ConsoleOut
         → IsPrintedFront n (W.ledger world.new) }
-    ensures named { Named ConsoleOut None (W.ledger world.old) (W.ledger world.new) }
+    ensures kept { NamesFault result (W.ledger world.old) (W.ledger world.new) }
+    ensures openings { OpensFront (W.ledger world.old).openings (W.ledger world.new).openings
+        console_openings }
     ensures balanced { Balanced ConsoleOut (W.ledger world.old) (W.ledger world.new) }
     ensures rest { W.ledger world.new ≡ only ConsoleOut (W.ledger world.old) (W.ledger world.new) }
 {

@@ -30,6 +30,8 @@ pub(crate) fn read_all<S: Source>(
         → IfSome (S.left source.old) (λ xs. limit < length xs) }
     ensures kept_long { IsErrOf result ReadError.TooLong
         → S.faults source.new ≡ S.faults source.old }
+    ensures kept_memory { IsErrOf result ReadError.NoMemory
+        → S.faults source.new ≡ S.faults source.old }
     ensures failed { IsErrOf result ReadError.Failed
         → Rose (S.faults source.old) (S.faults source.new) }
 {

@@ -1,13 +1,16 @@
 //! A recording over the devices of a world.
 
-ghost use Rattle.std.specs.Prelude.{◌≡◌, ◌<◌, ◌≤◌, ℕ, Some, None, [], IfOk, IfErr, OnOk, OnErr};
+ghost use Rattle.std.specs.Prelude.{◌≡◌, ◌<◌, ◌≤◌, ◌^◌, ℕ, Some, None, [], IfOk, IfErr, OnOk, OnErr};
 ghost use Rattle.outside.specs.Causes.{Rose, Stood};
 ghost use Rattle.outside.specs.Ledger.{opens, opens_sink, opens_clock};
 ghost use Rattle.outside.specs.Roles.{at};
 ghost use Rattle.outside.specs.declared.roles.Role.TheVariants.{ConsoleIn, ConsoleOut, LogOut};
 ghost use Rattle.event_log.specs.HeaderFormat.{IsHeader, header_text};
 ghost use Rattle.elf_load.specs.Load.{LiesInRam};
-ghost use Rattle.rrvm.specs.Ledgers.{only_recording, Balanced, ClocksBalanced, Named};
+ghost use Rattle.outside.specs.Openings.{OpensFront};
+ghost use Rattle.outside.specs.declared.openings.Opening.TheVariants.{Sink};
+ghost use Rattle.rrvm.specs.Ledgers.{only_recording, Balanced, ClocksBalanced, Untouched};
+ghost use Rattle.rrvm.specs.Openings.{device_openings, FailsToOpen};
 ghost use Rattle.rrvm.specs.Recordings.{HasFront, HasWhole, HasStop};
 ghost use Rattle.rrvm.specs.Endings.{IfEnds, IfStops, IsFresh, OpensNothing, RecordingKept, closed, recording_end_of};
 
@@ -37,17 +40,18 @@ fn open<W: World>(
     world: &mut W,
 ) -> Result<RecordParts<W::Source, W::Sink, W::Clock>, RecordingEnd>
     ensures opened { OnOk result (W.ledger world.new
-        ≡ opens_sink (opens_clock (opens_sink (opens (W.ledger world.old) ConsoleIn) ConsoleOut None))
+        ≡ opens_sink (opens_clock (opens_sink (opens (W.ledger world.old) ConsoleIn None) ConsoleOut None))
         LogOut (Some log.now)) }
     ensures fresh { IfOk result (IsFresh (W.ledger world.old)) }
 
     ensures fault { IfErr result OpensNothing }
-    ensures unopened { result ≡ Err RecordingEnd.CannotOpenLog
-        → Rose (W.ledger world.old).opening_faults (W.ledger world.new).opening_faults }
+    ensures unopened { result ≡ Err RecordingEnd.CannotOpenLog → FailsToOpen
+        (Sink LogOut (Some log.now)) (W.ledger world.old) (W.ledger world.new) }
     ensures log_closed { OnErr result (at (W.ledger world.new).opened LogOut
         ≡ at (W.ledger world.old).opened LogOut) }
-    ensures named_console { OnErr result
-        (Named ConsoleOut None (W.ledger world.old) (W.ledger world.new)) }
+    ensures openings { OnErr result (OpensFront (W.ledger world.old).openings
+        (W.ledger world.new).openings (device_openings log.now)) }
+    ensures untouched { OnErr result (Untouched (W.ledger world.old) (W.ledger world.new)) }
     ensures balanced_log { OnErr result
         (Balanced LogOut (W.ledger world.old) (W.ledger world.new)) }
     ensures balanced_input { OnErr result
@@ -136,8 +140,8 @@ pub(crate) fn record<W: World, L: Ledger>(
         → IfStops result (λ shown. HasStop shown header.now firmware.now
         (W.ledger world.old) (W.ledger world.new)) }
 
-    ensures unopened { result ≡ RecordingEnd.CannotOpenLog
-        → Rose (W.ledger world.old).opening_faults (W.ledger world.new).opening_faults }
+    ensures unopened { result ≡ RecordingEnd.CannotOpenLog → FailsToOpen
+        (Sink LogOut (Some log.now)) (W.ledger world.old) (W.ledger world.new) }
     ensures input_fault { result ≡ RecordingEnd.ConsoleUnreadable
         → Rose (at (W.ledger world.old).faults ConsoleIn)
         (at (W.ledger world.new).faults ConsoleIn) }
@@ -147,8 +151,11 @@ pub(crate) fn record<W: World, L: Ledger>(
     ensures log_fault { result ≡ RecordingEnd.LogFailed
         → Rose (at (W.ledger world.old).faults LogOut) (at (W.ledger world.new).faults LogOut) }
 
-    ensures named_log { Named LogOut (Some log.now) (W.ledger world.old) (W.ledger world.new) }
-    ensures named_console { Named ConsoleOut None (W.ledger world.old) (W.ledger world.new) }
+    ensures openings { OpensFront (W.ledger world.old).openings (W.ledger world.new).openings
+        (device_openings log.now) }
+    ensures untouched { at (W.ledger world.new).opened LogOut
+        ≡ at (W.ledger world.old).opened LogOut → at (W.ledger world.old).opened LogOut < 2 ^ 63
+        → Untouched (W.ledger world.old) (W.ledger world.new) }
     ensures balanced_log { Balanced LogOut (W.ledger world.old) (W.ledger world.new) }
     ensures balanced_input { Balanced ConsoleIn (W.ledger world.old) (W.ledger world.new) }
     ensures balanced_console { Balanced ConsoleOut (W.ledger world.old) (W.ledger world.new) }

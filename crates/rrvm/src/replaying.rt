@@ -1,6 +1,6 @@
 //! A replay over the devices of a world.
 
-ghost use Rattle.std.specs.Prelude.{◌≡◌, ◌<◌, false, None};
+ghost use Rattle.std.specs.Prelude.{◌≡◌, ◌<◌, false};
 ghost use Rattle.outside.specs.Causes.{Rose};
 ghost use Rattle.outside.specs.Roles.{at};
 ghost use Rattle.outside.specs.declared.roles.Role.TheVariants.{ConsoleIn, ConsoleOut, LogIn, LogOut, Firmware as FirmwareRole};
@@ -9,11 +9,14 @@ ghost use Rattle.elf_load.specs.Load.{LiesInRam};
 ghost use Rattle.event_log.specs.HeaderFormat.{IsHeader};
 ghost use Rattle.event_log.specs.Reading.{ahead, none_read};
 ghost use Rattle.rr_engine.specs.Runs.{start_of};
-ghost use Rattle.rrvm.specs.Ledgers.{only, only_run, Balanced, ClocksBalanced, CountsKept, Named};
+ghost use Rattle.outside.specs.Openings.{OpensFront};
+ghost use Rattle.rrvm.specs.Faults.{fault_of, KeptBut};
+ghost use Rattle.rrvm.specs.Ledgers.{only, only_run, Balanced, ClocksBalanced};
+ghost use Rattle.rrvm.specs.Openings.{openings_of, played_openings, console_openings};
 ghost use Rattle.rrvm.specs.Asking.{replay_asked, header_outcome_of, image_outcome_of, replay_outcome_of};
 ghost use Rattle.rrvm.specs.Replays.{word_difference as word_difference_of, IsShown};
-ghost use Rattle.rrvm.specs.Playing.{ShowsOver, only_playing, PlayingKept};
-ghost use Rattle.rrvm.specs.Answers.{Cause, ReplayCause, IfBoth, IfRan};
+ghost use Rattle.rrvm.specs.Playing.{ShowsOver, only_playing, PlayingKeptBut};
+ghost use Rattle.rrvm.specs.Answers.{Cause, ReplayCause, IfBoth};
 
 use crate::difference::Difference;
 use crate::images::{ImageFault, read_image};
@@ -90,6 +93,7 @@ fn replay_outcome(end: ReplayEnd) -> Outcome
 }
 
 /// Opens the console, replays over it, and gives it back.
+#[tactic(auto, using(outside::proofs::Fronts::openings))]
 fn show<W: World, L: Ledger>(
     alloc: Global,
     header: &Header,
@@ -104,7 +108,8 @@ fn show<W: World, L: Ledger>(
     requires works { log.old.unread.failed ≡ false }
     ensures shown { ShowsOver (start_of header.now firmware.now) log.old log.new
         (W.ledger world.old) (W.ledger world.new) result }
-    ensures named { Named ConsoleOut None (W.ledger world.old) (W.ledger world.new) }
+    ensures openings { OpensFront (W.ledger world.old).openings (W.ledger world.new).openings
+        console_openings }
     ensures balanced { Balanced ConsoleOut (W.ledger world.old) (W.ledger world.new) }
     ensures rest { W.ledger world.new ≡ only ConsoleOut (W.ledger world.old) (W.ledger world.new) }
 {
@@ -132,9 +137,10 @@ fn replay_log<W: World, L: Ledger>(
         < at (W.ledger world.new).opened ConsoleOut
         → IfBoth (ahead log.old) ((W.ledger world.old).names (replay_asked words.now).bios)
         (λ bytes file. IsShown (replay_asked words.now) bytes file (W.ledger world.new)) }
-    ensures kept { IfRan result (PlayingKept (W.ledger world.old) (W.ledger world.new)
-        × (log.new.faults ≡ log.old.faults)) }
-    ensures named { Named ConsoleOut None (W.ledger world.old) (W.ledger world.new) }
+    ensures kept { PlayingKeptBut (fault_of result) (W.ledger world.old) (W.ledger world.new)
+        log.old.faults log.new.faults }
+    ensures openings { OpensFront (W.ledger world.old).openings (W.ledger world.new).openings
+        (played_openings (replay_asked words.now).bios) }
     ensures balanced_firmware { Balanced FirmwareRole (W.ledger world.old) (W.ledger world.new) }
     ensures balanced_console { Balanced ConsoleOut (W.ledger world.old) (W.ledger world.new) }
     ensures rest { W.ledger world.new ≡ only_playing (W.ledger world.old) (W.ledger world.new) }
@@ -167,9 +173,9 @@ pub(crate) fn replay<W: World, L: Ledger>(
         → IfBoth ((W.ledger world.old).names (replay_asked words.now).log)
         ((W.ledger world.old).names (replay_asked words.now).bios)
         (λ bytes file. IsShown (replay_asked words.now) bytes file (W.ledger world.new)) }
-    ensures kept { IfRan result (CountsKept (W.ledger world.old) (W.ledger world.new)) }
-    ensures named_log { Named LogOut None (W.ledger world.old) (W.ledger world.new) }
-    ensures named_console { Named ConsoleOut None (W.ledger world.old) (W.ledger world.new) }
+    ensures kept { KeptBut (fault_of result) (W.ledger world.old) (W.ledger world.new) }
+    ensures openings { OpensFront (W.ledger world.old).openings (W.ledger world.new).openings
+        (openings_of (Replays (replay_asked words.now))) }
     ensures balanced_firmware { Balanced FirmwareRole (W.ledger world.old) (W.ledger world.new) }
     ensures balanced_input { Balanced ConsoleIn (W.ledger world.old) (W.ledger world.new) }
     ensures balanced_console { Balanced ConsoleOut (W.ledger world.old) (W.ledger world.new) }

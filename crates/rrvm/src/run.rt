@@ -1,13 +1,15 @@
 //! What the words of a recording come to over a world.
 
-ghost use Rattle.std.specs.Prelude.{◌≡◌, ◌<◌, ◌+◌, ◌^◌, None};
+ghost use Rattle.std.specs.Prelude.{◌≡◌, ◌<◌, ◌+◌, ◌^◌};
 ghost use Rattle.outside.specs.Roles.{at};
 ghost use Rattle.outside.specs.declared.roles.Role.TheVariants.{ConsoleIn, ConsoleOut, LogIn, LogOut, Firmware as FirmwareRole};
 ghost use Rattle.command_line.specs.Words.{Records, IsInRange};
 ghost use Rattle.event_log.specs.HeaderFormat.{IsHeader};
-ghost use Rattle.rrvm.specs.Ledgers.{only_run, Balanced, ClocksBalanced, CountsKept, Named};
+ghost use Rattle.outside.specs.Openings.{OpensFront};
+ghost use Rattle.rrvm.specs.Ledgers.{only_run, Balanced, ClocksBalanced, CountsKept, Untouched};
+ghost use Rattle.rrvm.specs.Openings.{openings_of};
 ghost use Rattle.rrvm.specs.Asking.{asked, recording_header, firmware_outcome_of, ending_outcome_of};
-ghost use Rattle.rrvm.specs.Answers.{Cause, IfRecords, IfRan, log_name};
+ghost use Rattle.rrvm.specs.Answers.{Cause, IfRecords, IfRan};
 ghost use Rattle.rrvm.specs.Recordings.{IsLogged};
 
 use crate::firmware::{FirmwareFault, digest, read_firmware};
@@ -77,9 +79,11 @@ pub(crate) fn run<W: World, L: Ledger>(
         → IfRecords (Records (asked words.now)) (W.ledger world.old)
         (λ r file. IsLogged r file (W.ledger world.old) (W.ledger world.new)) }
     ensures kept { IfRan result (CountsKept (W.ledger world.old) (W.ledger world.new)) }
-    ensures named_log { Named LogOut (log_name (Records (asked words.now)))
-        (W.ledger world.old) (W.ledger world.new) }
-    ensures named_console { Named ConsoleOut None (W.ledger world.old) (W.ledger world.new) }
+    ensures openings { OpensFront (W.ledger world.old).openings (W.ledger world.new).openings
+        (openings_of (Records (asked words.now))) }
+    ensures untouched { at (W.ledger world.new).opened LogOut
+        ≡ at (W.ledger world.old).opened LogOut → at (W.ledger world.old).opened LogOut < 2 ^ 63
+        → Untouched (W.ledger world.old) (W.ledger world.new) }
     ensures balanced_firmware { Balanced FirmwareRole (W.ledger world.old) (W.ledger world.new) }
     ensures balanced_input { Balanced ConsoleIn (W.ledger world.old) (W.ledger world.new) }
     ensures balanced_console { Balanced ConsoleOut (W.ledger world.old) (W.ledger world.new) }

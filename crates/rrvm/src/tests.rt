@@ -6,6 +6,7 @@ mod inputs;
 mod memory;
 mod replays;
 mod streams;
+mod texts;
 
 use crate::top::{Status, rrvm_main};
 use outside::{MemWorld, Role};
@@ -71,8 +72,6 @@ fn a_letter_is_recorded_byte_for_byte(rt: HostRuntime) -> Result<(), Fail> {
     assert_eq!(rt; world.written(Role::LogOut), LETTER_LOG.as_slice());
     assert_eq!(rt; world.written(Role::ConsoleOut), b"A".as_slice());
     assert_eq!(rt; world.written(Role::Messages), b"".as_slice());
-    assert_eq!(rt; world.sink_name(Role::LogOut), Some("log"));
-    assert_eq!(rt; world.sink_name(Role::ConsoleOut), None);
     Ok(())
 }
 

@@ -1,6 +1,6 @@
 //! The top call: what the words ask for is done over a world, and the messages say how it ended.
 
-ghost use Rattle.std.specs.Prelude.{◌≡◌, ◌≢◌, ◌<◌, ◌≤◌, ◌⊎◌, ℕ, List, [], Some, None, Ok, OnOk, OnErr, length, map, string_bytes};
+ghost use Rattle.std.specs.Prelude.{◌≡◌, ◌≢◌, ◌<◌, ◌≤◌, ◌^◌, ◌⊎◌, ℕ, List, [], Some, None, Ok, OnOk, OnErr, length, map, string_bytes};
 ghost use Rattle.outside.specs.Causes.{Rose, Stood};
 ghost use Rattle.outside.specs.Told.{Takes, TakesFront};
 ghost use Rattle.outside.specs.Roles.{at};
@@ -10,12 +10,15 @@ ghost use Rattle.command_line.specs.Words.{Recording, Replaying, Records, Replay
 ghost use Rattle.command_line.specs.Line.{seen_line, line_in, quiet_in};
 ghost use Rattle.elf_load.specs.declared.error.LoadError.{LoadError};
 ghost use Rattle.elf_load.specs.declared.error.LoadError.TheVariants as load_error;
-ghost use Rattle.rrvm.specs.Ledgers.{only, only_run, Balanced, ClocksBalanced, NoDisk, CountsKept, CountsStood, Named};
+ghost use Rattle.outside.specs.Openings.{OpensFront};
+ghost use Rattle.rrvm.specs.Ledgers.{only, only_run, Balanced, ClocksBalanced, NoDisk, CountsKept, CountsStood, Untouched};
+ghost use Rattle.rrvm.specs.Openings.{openings_of, console_openings, message_openings, OpensAsAsked};
+ghost use Rattle.rrvm.specs.Faults.{IsFaultless, NamesFault};
 ghost use Rattle.rrvm.specs.Messages.{line_of};
 ghost use Rattle.rrvm.specs.Firmwares.{IsBadFirmware};
 ghost use Rattle.rrvm.specs.Recordings.{IsGood, IsLogged};
 ghost use Rattle.rrvm.specs.Replays.{IsShown, IsReplayable, IsRefusable, IsTooLong};
-ghost use Rattle.rrvm.specs.Answers.{Cause, Explained, IfRecords, IfReplays, IfDemonstrates, IfRan, IsEnded, IsPrinted, IsPrintedFront, IsWordFault, HasRun, ending_status, log_name, SinksNamed};
+ghost use Rattle.rrvm.specs.Answers.{Cause, Explained, IfRecords, IfReplays, IfDemonstrates, Names, IsEnded, IsPrinted, IsPrintedFront, IfRecording, IsWordFault, HasRun, ending_status};
 
 use crate::message::message;
 use crate::outcome::Outcome;
@@ -39,8 +42,8 @@ pub struct Status {
 }
 
 /// Writes the line to the messages. A fault there changes nothing.
-#[tactic(auto, using(outside::proofs::Fronts::starts))]
-fn say<W: World>(text: &str, world: &mut W) -> Result<(), AllocError>
+#[tactic(auto, using(outside::proofs::Fronts::starts, outside::proofs::Fronts::openings))]
+pub(crate) fn say<W: World>(text: &[u8], world: &mut W) -> Result<(), AllocError>
     ensures unopened { OnErr result (at (W.ledger world.new).opened Messages
         ≡ at (W.ledger world.old).opened Messages) }
     ensures front { at (W.ledger world.old).opened Messages < at (W.ledger world.new).opened Messages
@@ -48,7 +51,8 @@ fn say<W: World>(text: &str, world: &mut W) -> Result<(), AllocError>
     ensures whole { OnOk result
         (Stood (at (W.ledger world.old).faults Messages) (at (W.ledger world.new).faults Messages)
         → Takes (Some []) (at (W.ledger world.new).last Messages) text.now) }
-    ensures named { Named Messages None (W.ledger world.old) (W.ledger world.new) }
+    ensures openings { OpensFront (W.ledger world.old).openings (W.ledger world.new).openings
+        message_openings }
     ensures balanced { Balanced Messages (W.ledger world.old) (W.ledger world.new) }
     ensures rest { W.ledger world.new ≡ only Messages (W.ledger world.old) (W.ledger world.new) }
 {
@@ -56,7 +60,7 @@ fn say<W: World>(text: &str, world: &mut W) -> Result<(), AllocError>
         Ok(sink) => Careful::new(sink),
         Err(_) => return Err(AllocError),
     };
-    let _ = messages.put_all(text.as_bytes());
+    let _ = messages.put_all(text);
     world.take_sink(Role::Messages, messages.into_inner());
     Ok(())
 }
@@ -77,14 +81,15 @@ fn tell<W: World>(
         → Stood (at (W.ledger world.old).faults Messages) (at (W.ledger world.new).faults Messages)
         → Takes (Some []) (at (W.ledger world.new).last Messages)
         (line_of (map string_bytes words.now) (seen_line line.now) result) }
-    ensures named { Named Messages None (W.ledger world.old) (W.ledger world.new) }
+    ensures openings { OpensFront (W.ledger world.old).openings (W.ledger world.new).openings
+        message_openings }
     ensures balanced { Balanced Messages (W.ledger world.old) (W.ledger world.new) }
     ensures rest { W.ledger world.new ≡ only Messages (W.ledger world.old) (W.ledger world.new) }
 {
     let Ok(text) = message(alloc, words, line, &outcome) else {
         return Outcome::NoMemory;
     };
-    match say(text.as_str(), world) {
+    match say(text.as_bytes(), world) {
         Ok(()) => outcome,
         Err(_) => Outcome::NoMemory,
     }
@@ -99,7 +104,9 @@ fn print_alone<W: World>(text: &str, world: &mut W) -> Outcome
         (at (W.ledger world.new).faults ConsoleOut) }
     ensures which { (result ≡ Outcome.Printed)
         ⊎ ((result ≡ Outcome.ConsoleFailed) ⊎ (result ≡ Outcome.NoMemory)) }
-    ensures named { Named ConsoleOut None (W.ledger world.old) (W.ledger world.new) }
+    ensures kept { NamesFault result (W.ledger world.old) (W.ledger world.new) }
+    ensures openings { OpensFront (W.ledger world.old).openings (W.ledger world.new).openings
+        console_openings }
     ensures balanced { Balanced ConsoleOut (W.ledger world.old) (W.ledger world.new) }
     ensures rest { W.ledger world.new ≡ only ConsoleOut (W.ledger world.old) (W.ledger world.new) }
 {
@@ -133,10 +140,13 @@ fn answer<W: World, L: Ledger>(
         < at (W.ledger world.new).opened ConsoleOut
         → IfDemonstrates (seen_line line.now) (λ n. IsPrintedFront n (W.ledger world.new)) }
     ensures bad { IsBadLine (seen_line line.now) → IsWordFault result }
-    ensures kept { IfRan result (CountsKept (W.ledger world.old) (W.ledger world.new)) }
-    ensures named_log { Named LogOut (log_name (seen_line line.now))
-        (W.ledger world.old) (W.ledger world.new) }
-    ensures named_console { Named ConsoleOut None (W.ledger world.old) (W.ledger world.new) }
+    ensures kept { Names (seen_line line.now) result (W.ledger world.old) (W.ledger world.new) }
+    ensures openings { OpensFront (W.ledger world.old).openings (W.ledger world.new).openings
+        (openings_of (seen_line line.now)) }
+    ensures untouched { IfRecording (seen_line line.now) (at (W.ledger world.new).opened LogOut
+        ≡ at (W.ledger world.old).opened LogOut → at (W.ledger world.old).opened LogOut < 2 ^ 63
+        → Untouched (W.ledger world.old) (W.ledger world.new)) }
+    ensures unchanged { IsBadLine (seen_line line.now) → W.ledger world.new ≡ W.ledger world.old }
     ensures balanced_firmware { Balanced FirmwareRole (W.ledger world.old) (W.ledger world.new) }
     ensures balanced_input { Balanced ConsoleIn (W.ledger world.old) (W.ledger world.new) }
     ensures balanced_console { Balanced ConsoleOut (W.ledger world.old) (W.ledger world.new) }
@@ -234,7 +244,10 @@ pub fn rrvm_main<R: Threads + Wait + Sync + AllocGlobal, W: World>(
         → (W.ledger world.old).names r.bios ≡ Some file → IsGood r file
         → CountsStood (W.ledger world.old) (W.ledger world.new)
         → HasRun result.code ⊎ (result.code ≡ 30) }
-    ensures unfaulted { (r : Recording) → line_in words.now ≡ Records r → HasRun result.code
+
+    // A machine that ran to an end, a text that was printed, or a log that is refused: no device
+    // failed, and no opening.
+    ensures unfaulted { IsFaultless result.code
         → CountsKept (W.ledger world.old) (W.ledger world.new) }
 
     // Where nothing fails, a replay of a log that is accepted whole has the status of the log's END;
@@ -260,8 +273,18 @@ pub fn rrvm_main<R: Threads + Wait + Sync + AllocGlobal, W: World>(
         → CountsStood (W.ledger world.old) (W.ledger world.new)
         → (result.code ≡ 22) ⊎ (result.code ≡ 30) }
 
-    // Where each sink was opened: the log in the words' file, console and messages without a name.
-    ensures sinks { SinksNamed (line_in words.now) (W.ledger world.old) (W.ledger world.new) }
+    // What was opened: a front of what the words let be opened, in that order and under the names
+    // that they give, and then the messages, or nothing.
+    ensures openings { OpensAsAsked (line_in words.now) (W.ledger world.old) (W.ledger world.new) }
+
+    // Where no log is recorded or read: a recording that doesn't open its log shows nothing and
+    // reads nothing of standard input, and bad words change the messages alone.
+    ensures untouched { (r : Recording) → line_in words.now ≡ Records r
+        → at (W.ledger world.new).opened LogOut ≡ at (W.ledger world.old).opened LogOut
+        → at (W.ledger world.old).opened LogOut < 2 ^ 63
+        → Untouched (W.ledger world.old) (W.ledger world.new) }
+    ensures idle_words { IsBadLine (line_in words.now)
+        → W.ledger world.new ≡ only Messages (W.ledger world.old) (W.ledger world.new) }
 
     // Each device is given back.
     ensures balanced { (role : ARole) → Balanced role (W.ledger world.old) (W.ledger world.new) }
@@ -300,8 +323,10 @@ pub fn rrvm_quiet<W: World>(alloc: Global, words: &[String], world: &mut W) -> S
         (at (W.ledger world.new).faults ConsoleOut) }
     ensures passed { result.code ≡ 0 → IsPrinted (quiet_in words.now) (W.ledger world.new) }
 
-    // Where each sink was opened: the log in the words' file, console and messages without a name.
-    ensures sinks { SinksNamed (quiet_in words.now) (W.ledger world.old) (W.ledger world.new) }
+    // What was opened: the console where a demonstration is asked for, and then the messages.
+    ensures openings { OpensAsAsked (quiet_in words.now) (W.ledger world.old) (W.ledger world.new) }
+    ensures idle_words { IsBadLine (quiet_in words.now)
+        → W.ledger world.new ≡ only Messages (W.ledger world.old) (W.ledger world.new) }
 
     // Each device is given back.
     ensures balanced { (role : ARole) → Balanced role (W.ledger world.old) (W.ledger world.new) }

@@ -5,19 +5,26 @@ use crate::top::rrvm_main;
 use outside::Role;
 use std::test::Fail;
 
-/// With ample memory it is the whole recording; else a front of it, with status 30 or the usual one.
+/// It is the whole recording, or, where memory was refused, a front of it with status 30. An
+/// allocation is refused once, so the next recording is whole.
 #[test]
 fn refused_memory_leaves_a_front_of_a_recording(rt: HostRuntime) -> Result<(), Fail> {
-    let Ok(mut world) = world(rt.alloc(), &LETTER) else {
+    let Ok(mut refused) = world(rt.alloc(), &LETTER) else {
         return Ok(());
     };
-    let Ok(words) = words(rt.alloc(), ICOUNT) else {
+    let Ok(given) = words(rt.alloc(), ICOUNT) else {
         return Ok(());
     };
-    let status = rrvm_main(&rt, &words, &mut world);
-    let log = world.written(Role::LogOut);
-    assert!(rt; status.code == 30 || (status.code == 0 && log.len() == LETTER_LOG.len()));
+    let status = rrvm_main(&rt, &given, &mut refused);
+    let log = refused.written(Role::LogOut);
     assert!(rt; LETTER_LOG.starts_with(log));
-    assert!(rt; b"A".starts_with(world.written(Role::ConsoleOut)));
+    assert!(rt; b"A".starts_with(refused.written(Role::ConsoleOut)));
+    if status.code != 30 {
+        assert_eq!(rt; (status.code, log.len()), (0, LETTER_LOG.len()));
+        return Ok(());
+    }
+    let mut ample = world(rt.alloc(), &LETTER)?;
+    assert_eq!(rt; rrvm_main(&rt, &given, &mut ample).code, 0);
+    assert_eq!(rt; ample.written(Role::LogOut), LETTER_LOG.as_slice());
     Ok(())
 }

@@ -1,4 +1,7 @@
-use Rattle.std.proofs.Common.{ap}
+use Rattle.std.proofs.Common.{◌≡◌, ℕ, ap, ◌∙◌, sym, arith}
+use Rattle.outside.specs.Causes.{one_more}
+use Rattle.outside.proofs.OpeningLemmas.{OpensFront-all}
+use Rattle.rrvm.specs.Openings.{device_openings}
 use Rattle.outside.specs.Ledger.{Ledger}
 use Rattle.outside.specs.Roles.{at}
 use Rattle.outside.specs.declared.roles.Role.TheVariants.{LogOut}
@@ -29,3 +32,19 @@ returns-clause-stopped g c = λ stood.
     c.record_one-end.new.parts c.record_one-end.result c.recording_end.result c.in-Ok.ensures.fresh
     (ap (λ (l : Ledger). at l.faults LogOut) c.in-Ok.ensures.opened)
     c.record_one-end.ensures c.close.ensures c.recording_end.ensures stood
+
+pub returns-clause-openings : goal.returns-clause-openings
+returns-clause-openings g c =
+    OpensFront-all _ _ (device_openings c.args.log.now)
+    (ap (λ (l : Ledger). l.openings) c.close.ensures
+    ∙ ap (λ (l : Ledger). l.openings) c.in-Ok.ensures.opened)
+
+-- the log was opened
+pub returns-clause-untouched : goal.returns-clause-untouched
+returns-clause-untouched g c = λ unopened few.
+    let old = g.W.World.ledger c.args.world.now in
+    let more : at (g.W.World.ledger c.close.new.world).opened LogOut ≡ one_more (at old.opened LogOut)
+    = ap (λ (l : Ledger). at l.opened LogOut) c.close.ensures
+    ∙ ap (λ (l : Ledger). at l.opened LogOut) c.in-Ok.ensures.opened in
+    let stays : one_more (at old.opened LogOut) ≡ at old.opened LogOut = sym more ∙ unopened in
+    absurd (omega (arith, stays, few))

@@ -1,10 +1,12 @@
-use Rattle.std.proofs.Common.{ℕ, Err, sym, ap, ◌∙◌, subst}
+use Rattle.std.proofs.Common.{ℕ, [], ◌∷◌, Err, sym, ap, ◌∙◌, subst}
 use Rattle.outside.specs.Causes.{Rose}
+use Rattle.outside.proofs.OpeningLemmas.{OpensFront-after, OpensFront-longer}
 use Rattle.outside.specs.Ledger.{Ledger}
 use Rattle.outside.specs.Roles.{at}
 use Rattle.outside.specs.declared.roles.Role.TheVariants.{ConsoleOut}
 use Rattle.event_log.specs.Reading.{ahead}
 use Rattle.rrvm.specs.Asking.{replay_asked, replay_outcome_of, image_outcome_of}
+use Rattle.rrvm.specs.Openings.{firmware_opening, console_openings}
 use Rattle.rrvm.proofs.Replayed.{words-cause, image-cause, played-cause, played-shown, as-outcome, Begins}
 use Rattle.rrvm.proofs.replaying.replay_log.Goals as goal
 
@@ -75,3 +77,13 @@ returns-in-Err-read_image-clause-cause g c =
     c.in-Err-read_image.ensures.refused
     (λ e. c.in-Err-read_image.ensures.unopened (ap Err e))
     (λ e. c.in-Err-read_image.ensures.unread (ap Err e)))
+
+pub returns-in-Ok-read_image-clause-openings : goal.returns-in-Ok-read_image-clause-openings
+returns-in-Ok-read_image-clause-openings g c =
+    OpensFront-after _ _ _ (firmware_opening c.args.words.now.bios.now ∷ []) console_openings
+    c.in-Ok-read_image.ensures.opened c.show.ensures.openings
+
+pub returns-in-Err-read_image-clause-openings : goal.returns-in-Err-read_image-clause-openings
+returns-in-Err-read_image-clause-openings g c =
+    OpensFront-longer _ _ (firmware_opening c.args.words.now.bios.now ∷ []) console_openings
+    c.read_image.ensures.openings

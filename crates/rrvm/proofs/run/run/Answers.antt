@@ -1,5 +1,7 @@
-use Rattle.std.proofs.Common.{ℕ, ◌≡◌, ◌<◌, ap, sym, subst}
+use Rattle.std.proofs.Common.{ℕ, [], ◌∷◌, ◌≡◌, ◌<◌, ap, sym, subst}
 use Rattle.outside.specs.Ledger.{Ledger}
+use Rattle.outside.proofs.OpeningLemmas.{OpensFront-after, OpensFront-longer}
+use Rattle.rrvm.specs.Openings.{firmware_opening, device_openings}
 use Rattle.outside.specs.Roles.{at}
 use Rattle.outside.specs.declared.roles.Role.TheVariants.{LogOut}
 use Rattle.rrvm.specs.Asking.{asked}
@@ -17,7 +19,7 @@ returns-clause-cause g c =
     c.record.result c.ending_outcome.result c.ending_outcome.ensures gives c.header-header.ensures
     c.record.ensures.whole c.record.ensures.stopped
     c.record.ensures.unopened c.record.ensures.input_fault c.record.ensures.console_fault
-    c.record.ensures.log_fault c.in-Ok.ensures.kept.opening c.in-Ok.ensures.rest
+    c.record.ensures.log_fault c.in-Ok.ensures.kept c.in-Ok.ensures.rest
 
 pub returns-clause-log : goal.returns-clause-log
 returns-clause-log g c = λ more.
@@ -31,3 +33,13 @@ returns-clause-log g c = λ more.
     run-logged (old.names c.args.words.now.bios.now) (asked c.args.words.now) c.in-Ok.firmware
     c.header-header.result old mid new gives c.header-header.ensures c.in-Ok.ensures.rest
     (c.record.ensures.front (subst (λ (n : ℕ). n < at new.opened LogOut) (sym opened) more))
+
+pub returns-in-Err-clause-openings : goal.returns-in-Err-clause-openings
+returns-in-Err-clause-openings g c =
+    OpensFront-longer _ _ (firmware_opening c.args.words.now.bios.now ∷ [])
+    (device_openings c.args.words.now.log.now) c.read_firmware.ensures.openings
+
+pub returns-clause-openings : goal.returns-clause-openings
+returns-clause-openings g c =
+    OpensFront-after _ _ _ (firmware_opening c.args.words.now.bios.now ∷ [])
+    (device_openings c.args.words.now.log.now) c.in-Ok.ensures.opened c.record.ensures.openings

@@ -2,7 +2,7 @@ use Rattle.std.proofs.Common.{map, string_bytes}
 use Rattle.command_line.specs.Line.{seen_line, line_in}
 use Rattle.rrvm.proofs.Completing.{replays-told, refuses-told, long-told}
 use Rattle.rrvm.proofs.Statuses.{bad-firmware-told, guest-ended-told, passed-told, unfaulted-told}
-use Rattle.rrvm.proofs.Telling.{told-explained, told-log, told-printed, told-shown, told-sinks}
+use Rattle.rrvm.proofs.Telling.{told-explained, told-log, told-printed, told-shown, told-openings, told-untouched}
 use Rattle.rrvm.proofs.top.rrvm_main.Goals as goal
 
 pub returns-clause-explained : goal.returns-clause-explained
@@ -13,7 +13,8 @@ returns-clause-explained g c =
     (g.W.World.ledger c.tell-told.new.world)
     c.answer-outcome.result c.tell-told.result c.status.result
     c.read_line-line.ensures.value c.answer-outcome.ensures.rest c.tell-told.ensures.rest
-    c.tell-told.ensures.which c.answer-outcome.ensures.cause c.tell-told.ensures.front
+    c.tell-told.ensures.which c.answer-outcome.ensures.cause c.answer-outcome.ensures.kept
+    c.tell-told.ensures.front
     c.tell-told.ensures.whole
     c.status.ensures
 
@@ -76,20 +77,21 @@ returns-clause-passed g c =
     (returns-clause-explained g c)
 
 pub returns-clause-unfaulted : goal.returns-clause-unfaulted
-returns-clause-unfaulted g c = λ r asks run.
-    unfaulted-told (seen_line c.read_line-line.result) (line_in c.args.words.now)
-    (g.W.World.ledger c.args.world.now) (g.W.World.ledger c.answer-outcome.new.world)
-    (g.W.World.ledger c.tell-told.new.world)
-    c.answer-outcome.result c.tell-told.result c.status.result
-    c.read_line-line.ensures.value c.tell-told.ensures.rest c.tell-told.ensures.which
-    c.answer-outcome.ensures.cause
-    c.answer-outcome.ensures.kept c.status.ensures r asks run
+returns-clause-unfaulted g c =
+    unfaulted-told (map string_bytes c.args.words.now) (line_in c.args.words.now)
+    (g.W.World.ledger c.args.world.now) (g.W.World.ledger c.tell-told.new.world) c.status.result
+    (returns-clause-explained g c)
 
-pub returns-clause-sinks : goal.returns-clause-sinks
-returns-clause-sinks g c =
-    told-sinks (seen_line c.read_line-line.result) (line_in c.args.words.now)
+pub returns-clause-openings : goal.returns-clause-openings
+returns-clause-openings g c =
+    told-openings (seen_line c.read_line-line.result) (line_in c.args.words.now)
     (g.W.World.ledger c.args.world.now) (g.W.World.ledger c.answer-outcome.new.world)
     (g.W.World.ledger c.tell-told.new.world)
-    c.read_line-line.ensures.value c.answer-outcome.ensures.rest c.tell-told.ensures.rest
-    c.answer-outcome.ensures.named_log c.answer-outcome.ensures.named_console
-    c.tell-told.ensures.named
+    c.read_line-line.ensures.value c.answer-outcome.ensures.openings c.tell-told.ensures.openings
+
+pub returns-clause-untouched : goal.returns-clause-untouched
+returns-clause-untouched g c =
+    told-untouched (seen_line c.read_line-line.result) (line_in c.args.words.now)
+    (g.W.World.ledger c.args.world.now) (g.W.World.ledger c.answer-outcome.new.world)
+    (g.W.World.ledger c.tell-told.new.world)
+    c.read_line-line.ensures.value c.tell-told.ensures.rest c.answer-outcome.ensures.untouched
