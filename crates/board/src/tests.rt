@@ -1,6 +1,8 @@
-//! Two guests of a few words: one prints a letter and ends the run, one traps.
+//! Guests of a few words: one prints a letter and ends the run, one traps, and those that use RAM.
 
 ghost use Rattle.std.specs.Prelude.{◌≡◌, ◌<◌, ◌≤◌, ◌^◌};
+
+mod guests;
 
 use super::*;
 use elf_load::load;
