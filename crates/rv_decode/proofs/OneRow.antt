@@ -14,7 +14,7 @@ abbrev pub pairwise : List Row → Bool
 pairwise [] = true
 pairwise (r ∷ rs) = list_all (apart r) rs && pairwise rs
 
-not_true : (b : Bool) → not b ≡ true → b ≡ false
+pub not_true : (b : Bool) → not b ≡ true → b ≡ false
 not_true true e = absurd cc
 not_true false e = refl
 

@@ -8,12 +8,14 @@ mod decoder;
 mod fields;
 mod format;
 mod ins;
+mod laws;
 mod op;
 mod opcodes;
 
 pub use cache::{DecodeCache, KnownWords};
 pub use decoder::decode;
 pub use ins::Ins;
+pub use laws::rows_decode_to_themselves;
 pub use op::Op;
 use std::alloc::AllocError;
 
