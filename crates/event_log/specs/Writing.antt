@@ -1,6 +1,7 @@
 -- What a writer of a log does with its bytes.
 use Rattle.std.specs.Prelude.{◌≡◌, ℕ, ◌⊎◌, Bool, true, false, List, [], ◌++◌, length, take, drop, Result, Ok, Err, nat_lt, if◌then◌else◌}
 use Rattle.std.specs.declared.option.Option.{Option}
+use Rattle.outside.specs.declared.roles.Role.{Role}
 use Rattle.outside.specs.Causes.{Rose}
 use Rattle.outside.specs.Told.{Takes, TakesFront}
 use Rattle.event_log.specs.declared.stream_error.StreamError.{StreamError}
@@ -18,6 +19,11 @@ pub record Writer : Type 0 where
   pub taken : Option (List ℕ)
   pub faults : ℕ
   pub unsent : Unsent
+
+-- a writer, with the role of its sink
+pub record RoleWriter : Type 0 where
+  pub role : Option Role
+  pub writer : Writer
 
 -- nothing was written yet
 abbrev pub none_written : Unsent

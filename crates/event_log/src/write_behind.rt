@@ -59,6 +59,7 @@ impl WriteBehind {
             (writing (S.taken sink.new) (S.faults sink.new) self.new)
             (header_text header.now) [] result }
         ensures held { self.new.held ≡ self.old.held }
+        ensures role { S.role sink.new ≡ S.role sink.old }
     {
         if self.failed {
             return Err(StreamError::Failed);
@@ -81,6 +82,7 @@ impl WriteBehind {
             (writing (S.taken sink.new) (S.faults sink.new) self.new)
             (sent gathered) (kept gathered) result }
         ensures most { length self.new.held ≤ 65536 }
+        ensures role { S.role sink.new ≡ S.role sink.old }
     {
         let _held = self.held.len();
         if self.failed {
@@ -99,6 +101,7 @@ impl WriteBehind {
             (writing (S.taken sink.new) (S.faults sink.new) self.new)
             (sent gathered) (kept gathered) result }
         ensures most { length self.new.held ≤ 65536 }
+        ensures role { S.role sink.new ≡ S.role sink.old }
     {
         let room = MOST - self.held.len();
         if bytes.len() < room {
@@ -118,6 +121,7 @@ impl WriteBehind {
         ensures bytes { Sends (writing (S.taken sink.old) (S.faults sink.old) self.old)
             (writing (S.taken sink.new) (S.faults sink.new) self.new)
             self.old.held [] result }
+        ensures role { S.role sink.new ≡ S.role sink.old }
         ensures no_memory { IfErr result (λ e. e ≡ Failed) }
     {
         if self.failed {
@@ -134,7 +138,8 @@ fn send<S: Sink>(sink: &mut Careful<S>, failed: &mut bool, bytes: &[u8]) -> Resu
     ensures all { OnOk result (Takes (S.taken sink.old) (S.taken sink.new) bytes.now) }
     ensures works { OnOk result (S.faults sink.new ≡ S.faults sink.old) }
     ensures unmarked { OnOk result (failed.new ≡ failed.old) }
-
+    ensures role { S.role sink.new ≡ S.role sink.old }
+    // errors
     ensures error { IfErr result (λ e. e ≡ Failed) }
     ensures front { OnErr result
         (TakesFront (S.taken sink.old) (S.taken sink.new) bytes.now) }

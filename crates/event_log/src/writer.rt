@@ -27,20 +27,26 @@ pub struct LogWriter<S: Sink> {
     unsent: WriteBehind,
 }
 
-// Clauses see what the sink has taken, and what is held.
+// Clauses see the sink's role, what it has taken, and what is held.
 impl<S: Sink> Model for LogWriter<S> {
-    ghost use Rattle.event_log.specs.Writing.{Writer, writing};
+    ghost use Rattle.event_log.specs.Writing.{RoleWriter, writing};
 
-    ghost Value = { Writer };
+    ghost Value = { RoleWriter };
 
-    ghost view = { λ w. writing (S.taken w.sink) (S.faults w.sink) w.unsent };
+    ghost view = { λ w. record {
+      role = S.role w.sink;
+      writer = writing (S.taken w.sink) (S.faults w.sink) w.unsent;
+    } };
 }
 
 impl<S: Sink + Drop> LogWriter<S> {
     /// A writer that was handed nothing yet. Where memory is refused the sink is dropped: where it
     /// is needed again, take a `WriteBehind` first, and join the two by `over`.
     pub fn new(alloc: Global, sink: S) -> Result<LogWriter<S>, NoMemory>
-        ensures { IfOk result (λ w. w ≡ writing (S.taken sink) (S.faults sink) none_written) }
+        ensures { IfOk result (λ w. w ≡ record {
+          role = S.role sink;
+          writer = writing (S.taken sink) (S.faults sink) none_written;
+        }) }
     {
         let unsent = WriteBehind::new(alloc)?;
         Ok(LogWriter {
@@ -53,7 +59,10 @@ impl<S: Sink + Drop> LogWriter<S> {
 impl<S: Sink> LogWriter<S> {
     /// A writer to the sink that goes on where `unsent` stands.
     pub fn over(sink: S, unsent: WriteBehind) -> LogWriter<S>
-        ensures { result ≡ writing (S.taken sink) (S.faults sink) unsent }
+        ensures { result ≡ record {
+          role = S.role sink;
+          writer = writing (S.taken sink) (S.faults sink) unsent;
+        } }
     {
         LogWriter {
             sink: Careful::new(sink),
@@ -64,9 +73,10 @@ impl<S: Sink> LogWriter<S> {
     /// Sends the header at once. It comes before all events.
     pub fn header(&mut self, alloc: Global, header: &Header) -> Result<(), StreamError>
         requires range { IsHeader header.now }
-        requires first { self.old.unsent.held ≡ [] }
-        ensures bytes { Sends self.old self.new (header_text header.now) [] result }
-        ensures held { self.new.unsent.held ≡ self.old.unsent.held }
+        requires first { self.old.writer.unsent.held ≡ [] }
+        ensures bytes { Sends self.old.writer self.new.writer (header_text header.now) [] result }
+        ensures role { self.new.role ≡ self.old.role }
+        ensures held { self.new.writer.unsent.held ≡ self.old.writer.unsent.held }
     {
         self.unsent.header(alloc, header, &mut self.sink)
     }
@@ -75,16 +85,18 @@ impl<S: Sink> LogWriter<S> {
     /// also where that cuts the spelling.
     pub fn put(&mut self, alloc: Global, event: &Event) -> Result<(), StreamError>
         requires { IsEvent event.now }
-        ensures bytes { let gathered = self.old.unsent.held ++ text event.now in
-            Sends self.old self.new (sent gathered) (kept gathered) result }
-        ensures most { length self.new.unsent.held ≤ 65536 }
+        ensures bytes { let gathered = self.old.writer.unsent.held ++ text event.now in
+            Sends self.old.writer self.new.writer (sent gathered) (kept gathered) result }
+        ensures role { self.new.role ≡ self.old.role }
+        ensures most { length self.new.writer.unsent.held ≤ 65536 }
     {
         self.unsent.put(alloc, event, &mut self.sink)
     }
 
     /// Sends what is held.
     pub fn finish(&mut self) -> Result<(), StreamError>
-        ensures bytes { Sends self.old self.new self.old.unsent.held [] result }
+        ensures bytes { Sends self.old.writer self.new.writer self.old.writer.unsent.held [] result }
+        ensures role { self.new.role ≡ self.old.role }
         ensures no_memory { IfErr result (λ e. e ≡ Failed) }
     {
         self.unsent.finish(&mut self.sink)
@@ -92,8 +104,9 @@ impl<S: Sink> LogWriter<S> {
 
     /// The sink, with what it has taken. What is held is lost.
     pub fn into_inner(self) -> S
-        ensures taken { S.taken result ≡ self.taken }
-        ensures faults { S.faults result ≡ self.faults }
+        ensures role { S.role result ≡ self.role }
+        ensures taken { S.taken result ≡ self.writer.taken }
+        ensures faults { S.faults result ≡ self.writer.faults }
     {
         let LogWriter { sink, .. } = self;
         sink.into_inner()

@@ -2,6 +2,7 @@
 use Rattle.std.specs.Prelude.{ℕ, Bool, List, ◌-◌, ◌^◌, Some, None, Result, Ok, Err, if◌then◌else◌, min, max, length, nat_eq, nat_lt, slice_get, slice_index, map}
 use Rattle.std.specs.declared.option.Option.{Option}
 use Rattle.std.specs.List.{list_any, range_with_len}
+use Rattle.outside.specs.declared.roles.Role.{Role}
 use Rattle.outside.specs.Causes.{one_more}
 
 -- the calls of a fake: the numbers of those that fail, how many were made, and how many failed
@@ -40,8 +41,9 @@ filled None room = room
 abbrev pub share : SourceState → ℕ → ℕ
 share s room = min (filled (slice_get s.chunks s.calls.made) room) (length s.left)
 
--- a sink in memory: the bytes taken, and its calls
+-- a sink in memory: the role that it was opened for, the bytes taken, and its calls
 pub record SinkState : Type 0 where
+  pub role : Option Role
   pub kept : List ℕ
   pub calls : NumberedCalls
 

@@ -3,11 +3,11 @@ use Rattle.std.specs.Prelude.{ℕ, List, [], Some, None, find, option_map, strin
 use Rattle.std.specs.Str.{bytes_eq}
 use Rattle.std.specs.declared.option.Option.{Option}
 use Rattle.outside.specs.declared.host_world.HostSource.{HostSource}
-use Rattle.outside.specs.declared.host_world.HostSink.{HostSink}
+use Rattle.outside.specs.declared.host_world.Outlet.{Outlet}
 use Rattle.outside.specs.declared.host_world.HostImage.{HostImage}
 use Rattle.outside.specs.declared.host_world.HostWorld.{HostWorld}
 use Rattle.outside.specs.declared.host_world.HostSource.TheVariants as source
-use Rattle.outside.specs.declared.host_world.HostSink.TheVariants as sink
+use Rattle.outside.specs.declared.host_world.Outlet.TheVariants as outlet
 use Rattle.outside.specs.declared.host_world.HostImage.TheVariants as image
 use Rattle.outside.specs.Roles.{same}
 use Rattle.outside.specs.Ledger.{Ledger}
@@ -24,11 +24,11 @@ source_faults (source.Standard faults) = faults
 source_faults (source.File faults) = faults
 source_faults source.Nothing = 0
 
--- how often a sink failed
-abbrev pub sink_faults : HostSink → ℕ
-sink_faults (sink.Standard faults) = faults
-sink_faults (sink.File faults) = faults
-sink_faults sink.Nothing = 0
+-- how often what takes a sink's bytes failed
+abbrev pub outlet_faults : Outlet → ℕ
+outlet_faults (outlet.Standard faults) = faults
+outlet_faults (outlet.File faults) = faults
+outlet_faults outlet.Nothing = 0
 
 -- an image tells nothing, unless it has nothing
 abbrev pub image_content : HostImage → Option (List ℕ)

@@ -1,7 +1,14 @@
--- A value for each role.
+-- What a device is for, and a value for each role.
+use Rattle.std.specs.Prelude.{◌≡◌, ⊤, None, Some}
+use Rattle.std.specs.declared.option.Option.{Option}
 use Rattle.outside.specs.declared.roles.Role.{Role}
 use Rattle.outside.specs.declared.roles.Role.TheVariants.{ConsoleIn, ConsoleOut, LogIn, LogOut, NetIn, NetOut, Firmware, Messages}
 use Rattle.outside.specs.declared.roles.PerRole.{PerRole}
+
+-- what was opened for a role is for that one, and what was made aside is for any
+abbrev pub IsFor : Option Role → Role → Type 0
+IsFor (Some opened) role = opened ≡ role
+IsFor None role = ⊤
 
 -- the value of a role
 abbrev pub at : {T : Type 0} → PerRole T → Role → T

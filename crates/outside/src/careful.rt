@@ -19,6 +19,8 @@ impl<S> Model for Careful<S> {
 }
 
 impl<S: Sink> Sink for Careful<S> {
+    ghost role = { S.role };
+
     ghost taken = { S.taken };
 
     ghost faults = { S.faults };
@@ -41,6 +43,7 @@ impl<S: Sink> Careful<S> {
     pub fn put_all(&mut self, bytes: &[u8]) -> Result<(), Failed>
         ensures all { OnOk result (Takes (S.taken self.old) (S.taken self.new) bytes.now) }
         ensures front { TakesFront (S.taken self.old) (S.taken self.new) bytes.now }
+        ensures role { S.role self.new ≡ S.role self.old }
         ensures cause { HasCause (S.faults self.old) (S.faults self.new) result }
     {
         let mut done = 0;

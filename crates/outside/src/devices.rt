@@ -6,6 +6,7 @@ ghost use Rattle.std.specs.Io.{ReadsAtMost, WritesAtMost};
 ghost use Rattle.std.specs.Io.KnownBytes.{ReadConsumes};
 ghost use Rattle.outside.specs.Causes.{HasCause};
 ghost use Rattle.outside.specs.Told.{StaysQuiet, Takes, WriteTakes};
+ghost use Rattle.outside.specs.declared.roles.Role.{Role};
 
 /// A device failed in this call, and its count of faults rose.
 #[derive(Clone, Copy, Debug, PartialEq, Eq)]
@@ -31,6 +32,9 @@ pub trait Source {
 
 /// Takes bytes, in order.
 pub trait Sink {
+    /// The role that a world opened it for, where one did.
+    ghost role: { Self → Option Role };
+
     /// The bytes taken, where it tells them. One that tells none never tells any again.
     ghost taken: { Self → Option (List ℕ) };
 
@@ -43,6 +47,7 @@ pub trait Sink {
         ensures count { WritesAtMost result bytes.now }
         ensures some { IfOk result (λ n. 0 < n) }
         ensures bytes { WriteTakes (taken self.old) (taken self.new) result bytes.now }
+        ensures role { role self.new ≡ role self.old }
         ensures cause { HasCause (faults self.old) (faults self.new) result };
 }
 
@@ -57,6 +62,8 @@ impl<S: Source> Source for &mut S {
 }
 
 impl<K: Sink> Sink for &mut K {
+    ghost role = { λ k. K.role k.now };
+
     ghost taken = { λ k. K.taken k.now };
 
     ghost faults = { λ k. K.faults k.now };

@@ -124,6 +124,8 @@ impl FileSink {
 }
 
 impl Sink for FileSink {
+    ghost role = { λ _. None };
+
     ghost taken = { λ _. None };
 
     ghost faults = { λ k. k };

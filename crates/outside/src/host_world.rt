@@ -2,7 +2,7 @@
 ghost use Rattle.std.specs.Prelude.{◌≡◌, ◌∷◌, Some, None, IsErrOf, OnOk, option_map, find, string_bytes};
 ghost use Rattle.std.specs.Str.{bytes_eq};
 ghost use Rattle.outside.specs.declared.openings.Opening.TheVariants as opening;
-ghost use Rattle.outside.specs.Host.{source_left, source_faults, sink_faults, image_content, image_size, image_faults, host_ledger, host_sizes};
+ghost use Rattle.outside.specs.Host.{source_left, source_faults, outlet_faults, image_content, image_size, image_faults, host_ledger, host_sizes};
 
 use crate::counters::Counters;
 use crate::files::FileId;
@@ -56,36 +56,45 @@ impl Source for HostSource {
     }
 }
 
-/// A sink of the host. `Nothing` drops what it takes.
+// Where the bytes of a sink go. `Nothing` drops them.
 #[derive(Drop)]
-pub enum HostSink {
+enum Outlet {
     Standard(StdSink),
     File(FileSink),
     Nothing,
 }
 
+/// A sink of the host, with the role that it was opened for.
+#[derive(Drop)]
+pub struct HostSink {
+    role: Role,
+    outlet: Outlet,
+}
+
 impl HostSink {
     fn faults(&self) -> u64
-        ensures { result ≡ sink_faults self.now }
+        ensures { result ≡ outlet_faults self.now.outlet }
     {
-        match self {
-            HostSink::Standard(sink) => sink.faults(),
-            HostSink::File(sink) => sink.faults(),
-            HostSink::Nothing => 0,
+        match &self.outlet {
+            Outlet::Standard(sink) => sink.faults(),
+            Outlet::File(sink) => sink.faults(),
+            Outlet::Nothing => 0,
         }
     }
 }
 
 impl Sink for HostSink {
+    ghost role = { λ k. Some k.role };
+
     ghost taken = { λ _. None };
 
-    ghost faults = { sink_faults };
+    ghost faults = { λ k. outlet_faults k.outlet };
 
     fn write(&mut self, bytes: &[u8]) -> Result<usize, Failed> {
-        match self {
-            HostSink::Standard(sink) => sink.write(bytes),
-            HostSink::File(sink) => sink.write(bytes),
-            HostSink::Nothing => Ok(bytes.len()),
+        match &mut self.outlet {
+            Outlet::Standard(sink) => sink.write(bytes),
+            Outlet::File(sink) => sink.write(bytes),
+            Outlet::Nothing => Ok(bytes.len()),
         }
     }
 }
@@ -262,19 +271,19 @@ impl World for HostWorld {
     }
 
     fn sink(&mut self, role: Role, name: Option<&str>) -> Result<HostSink, OpenError> {
-        let sink = match (name, role) {
+        let outlet = match (name, role) {
             (Some(name), _) => match FileSink::create(self.rt, name, &self.read) {
-                Ok(sink) => HostSink::File(sink),
+                Ok(sink) => Outlet::File(sink),
                 Err(Failed) => {
                     return Err(self.refuse(Opening::Sink(role, told_name(Some(name)))));
                 }
             },
-            (None, Role::ConsoleOut) => HostSink::Standard(StdSink::output(self.rt)),
-            (None, Role::Messages) => HostSink::Standard(StdSink::errors(self.rt)),
-            (None, _) => HostSink::Nothing,
+            (None, Role::ConsoleOut) => Outlet::Standard(StdSink::output(self.rt)),
+            (None, Role::Messages) => Outlet::Standard(StdSink::errors(self.rt)),
+            (None, _) => Outlet::Nothing,
         };
         self.counters.open_sink(role, name);
-        Ok(sink)
+        Ok(HostSink { role, outlet })
     }
 
     fn image(&mut self, name: Option<&str>) -> Result<HostImage, OpenError> {

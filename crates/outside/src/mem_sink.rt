@@ -1,12 +1,12 @@
 //! A sink in memory, which fails on demand.
-ghost use Rattle.std.specs.Prelude.{◌≡◌, ◌<◌, ◌++◌, length, [], take, Some, IfOk, IsErr, IsTrue, is_err};
+ghost use Rattle.std.specs.Prelude.{◌≡◌, ◌<◌, ◌++◌, length, [], take, Some, None, IfOk, IsErr, IsTrue, is_err};
 ghost use Rattle.std.specs.Io.{WritesAtMost};
 ghost use Rattle.outside.specs.Causes.{HasCause};
 ghost use Rattle.outside.specs.Told.{WriteTakes};
 ghost use Rattle.outside.specs.Fakes.{SinkState, uncalled, fails, called, moved};
 
 use crate::calls::Calls;
-use crate::{Failed, Sink};
+use crate::{Failed, Role, Sink};
 use std::alloc::Global;
 use std::marker::Model;
 
@@ -14,6 +14,7 @@ use std::marker::Model;
 /// and so does one whose bytes find no memory.
 #[derive(Drop)]
 pub struct MemSink {
+    role: Option<Role>,
     kept: Vec<u8>,
     calls: Calls,
 }
@@ -21,15 +22,27 @@ pub struct MemSink {
 impl Model for MemSink {
     ghost Value = { SinkState };
 
-    ghost view = { λ k. record { kept = k.kept.items; calls = k.calls } };
+    ghost view = { λ k. record { role = k.role; kept = k.kept.items; calls = k.calls } };
 }
 
 impl MemSink {
     /// A sink that has taken nothing.
     pub fn new(alloc: Global, failing: Vec<u64>) -> Self
-        ensures { result ≡ record { kept = []; calls = uncalled failing.items } }
+        ensures { result ≡ record { role = None; kept = []; calls = uncalled failing.items } }
     {
         MemSink {
+            role: None,
+            kept: Vec::new(alloc),
+            calls: Calls::new(failing),
+        }
+    }
+
+    /// One that a world opened for the role.
+    pub(crate) fn opened(alloc: Global, role: Role, failing: Vec<u64>) -> Self
+        ensures { result ≡ record { role = Some role; kept = []; calls = uncalled failing.items } }
+    {
+        MemSink {
+            role: Some(role),
             kept: Vec::new(alloc),
             calls: Calls::new(failing),
         }
@@ -56,6 +69,8 @@ impl MemSink {
 }
 
 impl Sink for MemSink {
+    ghost role = { λ k. k.role };
+
     ghost taken = { λ k. Some k.kept };
 
     ghost faults = { λ k. k.calls.faults };
@@ -65,6 +80,7 @@ impl Sink for MemSink {
         ensures count { WritesAtMost result bytes.now }
         ensures some { IfOk result (λ n. 0 < n) }
         ensures bytes { WriteTakes (Some self.old.kept) (Some self.new.kept) result bytes.now }
+        ensures role { self.new.role ≡ self.old.role }
         ensures cause { HasCause self.old.calls.faults self.new.calls.faults result }
         // what this sink does beside
         ensures fails { IsTrue (fails self.old.calls) → IsErr result }

@@ -1,7 +1,7 @@
 //! A world in memory, for tests.
 ghost use Rattle.std.specs.Prelude.{◌≡◌, ◌↔◌, [], ◌∷◌, Some, None, List, ℕ, length, OnOk, OnErr, IfOk, IsSome, IsNone, IsTrue, IsErrOf, find, option_copied, string_bytes, if◌then◌else◌};
 ghost use Rattle.std.specs.Str.{bytes_eq};
-ghost use Rattle.outside.specs.Roles.{at, put, same, each};
+ghost use Rattle.outside.specs.Roles.{IsFor, at, put, same, each};
 ghost use Rattle.outside.specs.Ledger.{IsNew};
 ghost use Rattle.outside.specs.declared.openings.Opening.TheVariants as opening;
 
@@ -315,6 +315,7 @@ impl World for MemWorld {
     fn sink(&mut self, role: Role, name: Option<&str>) -> Result<MemSink, OpenError>
         ensures opened { OnOk result (mem_ledger self.new
             ≡ opens_sink (mem_ledger self.old) role (option_copied name.entry)) }
+        ensures role { IfOk result (λ k. k.role ≡ Some role) }
         ensures empty { IfOk result (λ k. k.kept ≡ []) }
         ensures fresh { IfOk result (λ k. k.calls.faults ≡ 0) }
         ensures failed { IsErrOf result OpenError.Failed
@@ -337,7 +338,7 @@ impl World for MemWorld {
         let failing = self.failing.at(role).to_vec(self.alloc)?;
         self.note_name(name);
         self.counters.open_sink(role, name);
-        Ok(MemSink::new(self.alloc, failing))
+        Ok(MemSink::opened(self.alloc, role, failing))
     }
 
     /// Fails where the open is to fail or no file has the name.
@@ -407,6 +408,7 @@ impl World for MemWorld {
     }
 
     fn take_sink(&mut self, role: Role, sink: MemSink)
+        requires role { IsFor sink.role role }
         ensures back { mem_ledger self.new
             ≡ sink_back (mem_ledger self.old) role sink.calls.faults (Some sink.kept) }
         ensures sizes { KeepsSizes (mem_sizes self.old) (mem_sizes self.new) }

@@ -153,6 +153,8 @@ impl StdSink {
 }
 
 impl Sink for StdSink {
+    ghost role = { λ _. None };
+
     ghost taken = { λ _. None };
 
     ghost faults = { λ k. k };

@@ -104,6 +104,8 @@ impl SureSink {
 }
 
 impl Sink for SureSink {
+    ghost role = { λ _. None };
+
     ghost taken = { λ k. k };
 
     ghost faults = { λ _. 0 };

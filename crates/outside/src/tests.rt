@@ -54,6 +54,8 @@ struct Drip {
 }
 
 impl Sink for Drip {
+    ghost role = { λ _. None };
+
     ghost taken = { λ d. d.sink };
 
     ghost faults = { λ _. 0 };

@@ -1,7 +1,8 @@
 //! Where the devices of a run come from, and where they are given back.
-ghost use Rattle.std.specs.Prelude.{◌≡◌, ℕ, List, IsSome, IfOk, OnOk, IsErrOf, option_copied};
+ghost use Rattle.std.specs.Prelude.{◌≡◌, ℕ, List, Some, IsSome, IfOk, OnOk, IsErrOf, option_copied};
 ghost use Rattle.std.specs.declared.option.Option.{Option};
 ghost use Rattle.outside.specs.declared.openings.Opening.TheVariants as opening;
+ghost use Rattle.outside.specs.Roles.{IsFor};
 ghost use Rattle.outside.specs.Ledger.{Ledger, held, image_held, opens, opens_sink, opening_fails, source_back, sink_back, opens_disk, disk_back, opens_clock, clock_back, KeepsSizes, HasSize, StartsEmpty};
 
 use crate::{HostClock, Image, Role, Sink, Source};
@@ -73,6 +74,7 @@ pub trait World {
     fn sink(&mut self, role: Role, name: Option<&str>) -> Result<Self::Sink, OpenError>
         ensures opened { OnOk result (ledger self.new
             ≡ opens_sink (ledger self.old) role (option_copied name.entry)) }
+        ensures role { IfOk result (λ k. Self.Sink.role k ≡ Some role) }
         ensures empty { IfOk result (λ k. StartsEmpty (Self.Sink.taken k)) }
         ensures fresh { IfOk result (λ k. Self.Sink.faults k ≡ 0) }
         // errors
@@ -111,8 +113,10 @@ pub trait World {
             (Self.Source.faults source) (Self.Source.left source) }
         ensures sizes { KeepsSizes (sizes self.old) (sizes self.new) };
 
-    /// Takes a sink of the role back, and adds its count of faults to the role's.
+    /// Takes a sink of the role back, and adds its count of faults to the role's. One that was
+    /// opened for another role can't be given back under this one.
     fn take_sink(&mut self, role: Role, sink: Self::Sink)
+        requires role { IsFor (Self.Sink.role sink) role }
         ensures back { ledger self.new
             ≡ sink_back (ledger self.old) role (Self.Sink.faults sink) (Self.Sink.taken sink) }
         ensures sizes { KeepsSizes (sizes self.old) (sizes self.new) };

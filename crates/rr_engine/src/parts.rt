@@ -7,7 +7,8 @@ use outside::{Bytes, Careful, HostClock, Sink, Source};
 use std::alloc::Global;
 use std::marker::Model;
 
-/// The devices that a recording uses.
+/// The devices that a recording uses. Sinks that a world opened are each in its place: the console
+/// and the log can't be exchanged.
 #[derive(Drop)]
 pub struct RecordParts<S: Source, K: Sink, C: HostClock> {
     /// Gives the console's input.
@@ -23,6 +24,8 @@ pub struct RecordParts<S: Source, K: Sink, C: HostClock> {
 // Clauses see what the sinks have taken and the source has left, how often these failed, and the
 // values that the clock gave.
 impl<S: Source, K: Sink, C: HostClock> Model for RecordParts<S, K, C> {
+    ghost use Rattle.outside.specs.declared.roles.Role.TheVariants.{ConsoleOut, LogOut};
+    ghost use Rattle.outside.specs.Roles.{IsFor};
     ghost use Rattle.rr_engine.specs.Stand.{Devices};
 
     ghost Value = { Devices };
@@ -36,6 +39,8 @@ impl<S: Source, K: Sink, C: HostClock> Model for RecordParts<S, K, C> {
       input_faults = S.faults p.console;
       gave = C.gave p.clock;
     } };
+
+    ghost invariant = { λ p. IsFor (K.role p.out) ConsoleOut × IsFor (K.role p.log) LogOut };
 }
 
 impl<S: Source, K: Sink, C: HostClock> RecordParts<S, K, C> {

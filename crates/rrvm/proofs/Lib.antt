@@ -12,3 +12,4 @@ pub mod Completing
 pub mod Statuses
 pub mod DemoTurns
 pub mod DemoRuns
+pub mod Counting

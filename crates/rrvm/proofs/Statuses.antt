@@ -11,10 +11,10 @@ use Rattle.elf_load.specs.declared.error.LoadError.{LoadError}
 use Rattle.rrvm.specs.declared.outcome.Outcome.{Outcome}
 use Rattle.rrvm.specs.declared.outcome.Outcome.TheVariants.{Printed, GuestEnded, IdleForEver, BudgetReached, BadFirmware, RecordingStopped, HeaderRefused, LogRefused, NoMemory}
 use Rattle.rrvm.specs.Ledgers.{CountsKept}
-use Rattle.rrvm.specs.Faults.{KeptBut, NamesFault, IsFaultless}
+use Rattle.rrvm.specs.Faults.{KeptBut, NamesFault, NamesFirstFault, IsFaultless}
 use Rattle.rrvm.specs.Outcomes.{status_of}
 use Rattle.rrvm.specs.Firmwares.{IsBadFirmware}
-use Rattle.rrvm.specs.Answers.{Cause, RecordCause, Explained, IfRecords, IfRan, Names, IsEnded, IsPrinted}
+use Rattle.rrvm.specs.Answers.{Cause, RecordCause, Explained, IfRecords, Names, IsEnded, IsPrinted}
 
 ended-eight : (b : Bool) → ◌≡◌ {A = ℕ} (if b then 0 else 10) 8 → ⊥
 ended-eight true e = absurd cc
@@ -153,18 +153,6 @@ quiet-told words old new status x e =
 
 -- ---- the counts where nothing failed
 
-record-kept : (r : Recording) (old mid : Ledger) (outcome : Outcome) → RecordCause r old mid outcome
-    → IsFaultless (status_of outcome)
-    → IfRan outcome (CountsKept old mid) → CountsKept old mid
-record-kept r old mid (GuestEnded code) k run kept = kept
-record-kept r old mid IdleForEver k run kept = kept
-record-kept r old mid BudgetReached k run kept = kept
-record-kept r old mid Printed k run kept = absurd k
-record-kept r old mid RecordingStopped k run kept = absurd k
-record-kept r old mid (HeaderRefused offset) k run kept = absurd k
-record-kept r old mid (LogRefused refusal) k run kept = absurd k
-record-kept r old mid outcome k run kept = absurd cc
-
 all-kept : (old mid : Ledger) → KeptBut None old mid → CountsKept old mid
 all-kept old mid k = record {
   opening = k.opening (λ e. absurd cc);
@@ -186,17 +174,28 @@ named-kept old mid (HeaderRefused offset) run k = all-kept old mid k
 named-kept old mid (LogRefused refusal) run k = all-kept old mid k
 named-kept old mid outcome run k = absurd cc
 
-names-kept : (r : Reading) (old mid : Ledger) (outcome : Outcome) → Cause r old mid outcome
+first-kept : (old mid : Ledger) (outcome : Outcome) → IsFaultless (status_of outcome)
+    → NamesFirstFault outcome old mid → CountsKept old mid
+first-kept old mid (GuestEnded code) run k = all-kept old mid k
+first-kept old mid IdleForEver run k = all-kept old mid k
+first-kept old mid BudgetReached run k = all-kept old mid k
+first-kept old mid Printed run k = all-kept old mid k
+first-kept old mid RecordingStopped run k = all-kept old mid k
+first-kept old mid (HeaderRefused offset) run k = all-kept old mid k
+first-kept old mid (LogRefused refusal) run k = all-kept old mid k
+first-kept old mid outcome run k = absurd cc
+
+names-kept : (r : Reading) (old mid : Ledger) (outcome : Outcome)
     → IsFaultless (status_of outcome) → Names r outcome old mid → CountsKept old mid
-names-kept (Records words) old mid outcome cause run k = record-kept words old mid outcome cause run k
-names-kept (Replays words) old mid outcome cause run k = named-kept old mid outcome run k
-names-kept (Demonstrates n) old mid outcome cause run k = named-kept old mid outcome run k
-names-kept Help old mid outcome cause run k = named-kept old mid outcome run k
-names-kept Version old mid outcome cause run k = named-kept old mid outcome run k
-names-kept (Bad n) old mid outcome cause run k = named-kept old mid outcome run k
-names-kept Early old mid outcome cause run k = named-kept old mid outcome run k
+names-kept (Records words) old mid outcome run k = first-kept old mid outcome run k
+names-kept (Replays words) old mid outcome run k = named-kept old mid outcome run k
+names-kept (Demonstrates n) old mid outcome run k = named-kept old mid outcome run k
+names-kept Help old mid outcome run k = named-kept old mid outcome run k
+names-kept Version old mid outcome run k = named-kept old mid outcome run k
+names-kept (Bad n) old mid outcome run k = named-kept old mid outcome run k
+names-kept Early old mid outcome run k = named-kept old mid outcome run k
 
 pub unfaulted-told : (words : List (List ℕ)) (r : Reading) (old new : Ledger) (status : ℕ)
     → Explained words r old new status → IsFaultless status → CountsKept old new
 unfaulted-told words r old new status x run =
-    names-kept r old new x.outcome x.cause (subst IsFaultless x.is_status run) x.named
+    names-kept r old new x.outcome (subst IsFaultless x.is_status run) x.named

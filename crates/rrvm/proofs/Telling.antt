@@ -15,13 +15,13 @@ use Rattle.rrvm.specs.declared.outcome.Outcome.TheVariants.{Printed, GuestEnded,
 use Rattle.outside.specs.Openings.{OpensFront}
 use Rattle.outside.specs.declared.openings.Opening.{Opening}
 use Rattle.rrvm.specs.Ledgers.{only, only_run, CountsKept, Untouched}
-use Rattle.rrvm.specs.Faults.{Fault, fault_of, KeptBut, NamesFault}
+use Rattle.rrvm.specs.Faults.{Fault, fault_of, KeptBut, KeptButLog, NamesFault, NamesFirstFault}
 use Rattle.rrvm.specs.Openings.{openings_of, opening_of, message_openings, FailsToOpen, OpensAsAsked}
 use Rattle.rrvm.specs.Outcomes.{status_of}
 use Rattle.rrvm.specs.Messages.{line_of}
 use Rattle.rrvm.specs.Recordings.{IsRecorded, IsRecordedToStop, IsLogged}
 use Rattle.rrvm.specs.Replays.{IsReplayed, IsRefusedLog, IsReplayedToLimit, IsShown}
-use Rattle.rrvm.specs.Answers.{Cause, RecordCause, ReplayCause, DemoCause, PrintCause, Explained, IfBoth, IfRecords, IfReplays, IfDemonstrates, IfRecording, IfRan, Names, IsPrinted, IsPrintedFront}
+use Rattle.rrvm.specs.Answers.{Cause, RecordCause, ReplayCause, DemoCause, PrintCause, Explained, IfBoth, IfRecords, IfReplays, IfDemonstrates, IfRecording, Names, IsPrinted, IsPrintedFront}
 
 -- the ledger after the messages were said
 abbrev said : Ledger → Ledger → Ledger
@@ -285,18 +285,25 @@ named-stays : (outcome : Outcome) (old mid new : Ledger) → NamesFault outcome 
 named-stays NoMemory old mid new k = tt
 named-stays outcome old mid new k = kept-stays (fault_of outcome) old mid new k
 
-if-ran : (outcome : Outcome) (P Q : Type 0) → (P → Q) → IfRan outcome P → IfRan outcome Q
-if-ran (GuestEnded code) P Q f k = f k
-if-ran IdleForEver P Q f k = f k
-if-ran BudgetReached P Q f k = f k
-if-ran RecordingStopped P Q f k = f k
-if-ran (LogRefused refusal) P Q f k = f k
-if-ran outcome P Q f k = tt
+but-log-stays : (fault : Option Fault) (old mid new : Ledger) → KeptButLog fault old mid
+    → KeptButLog fault old (said mid new)
+but-log-stays fault old mid new k = record {
+  opening = k.opening;
+  firmware = k.firmware;
+  input = k.input;
+  console = k.console;
+  replayed_log = k.replayed_log;
+}
+
+first-stays : (outcome : Outcome) (old mid new : Ledger) → NamesFirstFault outcome old mid
+    → NamesFirstFault outcome old (said mid new)
+first-stays ConsoleUnreadable old mid new k = but-log-stays _ old mid new k
+first-stays ConsoleFailed old mid new k = but-log-stays _ old mid new k
+first-stays outcome old mid new k = named-stays outcome old mid new k
 
 names-stay : (r : Reading) (outcome : Outcome) (old mid new : Ledger) → Names r outcome old mid
     → Names r outcome old (said mid new)
-names-stay (Records words) outcome old mid new k =
-    if-ran outcome _ _ (counts-stay old mid new) k
+names-stay (Records words) outcome old mid new k = first-stays outcome old mid new k
 names-stay (Replays words) outcome old mid new k = named-stays outcome old mid new k
 names-stay (Demonstrates n) outcome old mid new k = named-stays outcome old mid new k
 names-stay Help outcome old mid new k = named-stays outcome old mid new k

@@ -12,8 +12,8 @@ use Rattle.rr_engine.specs.Input.{Extent, Entire, Part}
 use Rattle.rrvm.specs.declared.outcome.Outcome.{Outcome}
 use Rattle.rrvm.specs.declared.outcome.Outcome.TheVariants.{Printed, GuestEnded, IdleForEver, BudgetReached, BadWord, WordsMissing, CannotOpen, CannotRead, ConsoleUnreadable, ConsoleFailed, LogFailed, LogUnreadable, BadFirmware, RecordingStopped, HeaderRefused, LogRefused, ImagesDiffer, LogTooLong, QuietFailed, NoMemory}
 use Rattle.rrvm.specs.declared.printing.TheConstants.{HELP, VERSION}
-use Rattle.rrvm.specs.Ledgers.{CountsKept, Untouched}
-use Rattle.rrvm.specs.Faults.{NamesFault}
+use Rattle.rrvm.specs.Ledgers.{Untouched}
+use Rattle.rrvm.specs.Faults.{NamesFault, NamesFirstFault}
 use Rattle.rrvm.specs.Openings.{opening_of, FailsToOpen}
 use Rattle.rrvm.specs.Outcomes.{status_of}
 use Rattle.rrvm.specs.Demos.{Demonstration, demo_line}
@@ -159,19 +159,9 @@ Cause Version old new outcome = PrintCause Version old new outcome
 Cause (Bad k) old new outcome = (outcome ≡ BadWord k) ⊎ (outcome ≡ NoMemory)
 Cause Early old new outcome = (outcome ≡ WordsMissing) ⊎ (outcome ≡ NoMemory)
 
--- what holds where the machine ran to an end, or to the log's first wrong event
-abbrev pub IfRan : Outcome → Type 0 → Type 0
-IfRan (GuestEnded code) P = P
-IfRan IdleForEver P = P
-IfRan BudgetReached P = P
-IfRan RecordingStopped P = P
-IfRan (LogRefused refusal) P = P
-IfRan other P = ⊤
-
--- The outcome names each fault that was counted; of a recording this is said where the machine ran
--- to an end.
+-- the outcome names each fault that was counted; that of a recording the first
 abbrev pub Names : Reading → Outcome → Ledger → Ledger → Type 0
-Names (Records r) outcome old new = IfRan outcome (CountsKept old new)
+Names (Records r) outcome old new = NamesFirstFault outcome old new
 Names other outcome old new = NamesFault outcome old new
 
 -- The status, what it came by, and no other fault, and what the messages took: a front of the status's line, and all of

@@ -2,6 +2,7 @@
 use Rattle.std.specs.Prelude.{◌≡◌, ℕ}
 use Rattle.outside.specs.Ledger.{Ledger, StartsEmpty, source_back, sink_back, clock_back}
 use Rattle.outside.specs.Roles.{at}
+use Rattle.outside.specs.declared.roles.Role.{Role}
 use Rattle.outside.specs.declared.roles.Role.TheVariants.{ConsoleIn, ConsoleOut, LogOut}
 use Rattle.rr_engine.specs.declared.parts.RunEnd.{RunEnd}
 use Rattle.rr_engine.specs.declared.parts.RunEnd.TheVariants as run_end
@@ -44,12 +45,26 @@ OpensNothing CannotOpenLog = Unit {0}
 OpensNothing NoMemory = Unit {0}
 OpensNothing other = ⊥
 
--- the counts of openings and of the recording's devices are what they were
-pub record RecordingKept (old new : Ledger) : Type 0 where
-  pub opening : new.opening_faults ≡ old.opening_faults
-  pub input : at new.faults ConsoleIn ≡ at old.faults ConsoleIn
-  pub console : at new.faults ConsoleOut ≡ at old.faults ConsoleOut
-  pub log : at new.faults LogOut ≡ at old.faults LogOut
+-- a count is what it was
+abbrev pub OpeningsKept : Ledger → Ledger → Type 0
+OpeningsKept old new = new.opening_faults ≡ old.opening_faults
+
+abbrev pub KeptOf : Role → Ledger → Ledger → Type 0
+KeptOf role old new = at new.faults role ≡ at old.faults role
+
+-- The first device that failed is told: by a recording's end, which counts are what they were. After
+-- the console or its input failed END 3 is written to the log, which may fail too; and where memory
+-- was refused nothing is said.
+abbrev pub KeepsCounts : RecordingEnd → Ledger → Ledger → Type 0
+KeepsCounts (End reason code) old new =
+    OpeningsKept old new × KeptOf ConsoleIn old new × KeptOf ConsoleOut old new × KeptOf LogOut old new
+KeepsCounts CannotOpenLog old new =
+    KeptOf ConsoleIn old new × KeptOf ConsoleOut old new × KeptOf LogOut old new
+KeepsCounts ConsoleUnreadable old new = OpeningsKept old new × KeptOf ConsoleOut old new
+KeepsCounts ConsoleFailed old new = OpeningsKept old new × KeptOf ConsoleIn old new
+KeepsCounts LogFailed old new =
+    OpeningsKept old new × KeptOf ConsoleIn old new × KeptOf ConsoleOut old new
+KeepsCounts NoMemory old new = Unit {0}
 
 abbrev pub recording_end_of : RunEnd → RecordingEnd
 recording_end_of (run_end.End reason code) = End reason code

@@ -41,6 +41,22 @@ abbrev pub NamesFault : Outcome → Ledger → Ledger → Type 0
 NamesFault NoMemory old new = ⊤
 NamesFault outcome old new = KeptBut (fault_of outcome) old new
 
+-- The same, but for the log's count.
+pub record KeptButLog (fault : Option Fault) (old new : Ledger) : Type 0 where
+  pub opening : fault ≢ Some Opening → new.opening_faults ≡ old.opening_faults
+  pub firmware : fault ≢ Some (Device Firmware) → at new.faults Firmware ≡ at old.faults Firmware
+  pub input : fault ≢ Some (Device ConsoleIn) → at new.faults ConsoleIn ≡ at old.faults ConsoleIn
+  pub console : fault ≢ Some (Device ConsoleOut)
+      → at new.faults ConsoleOut ≡ at old.faults ConsoleOut
+  pub replayed_log : fault ≢ Some (Device LogIn) → at new.faults LogIn ≡ at old.faults LogIn
+
+-- The outcome of a recording names the first fault that was counted, and no other was. Where the
+-- console or its input stopped it, END 3 is written to the log then, which may fail too.
+abbrev pub NamesFirstFault : Outcome → Ledger → Ledger → Type 0
+NamesFirstFault ConsoleUnreadable old new = KeptButLog (Some (Device ConsoleIn)) old new
+NamesFirstFault ConsoleFailed old new = KeptButLog (Some (Device ConsoleOut)) old new
+NamesFirstFault outcome old new = NamesFault outcome old new
+
 -- the statuses of a run or a text that came to its end, and of a log that is refused
 abbrev pub IsFaultless : ℕ → Type 0
 IsFaultless status =

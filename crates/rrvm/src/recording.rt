@@ -12,7 +12,7 @@ ghost use Rattle.outside.specs.declared.openings.Opening.TheVariants.{Sink};
 ghost use Rattle.rrvm.specs.Ledgers.{only_recording, Balanced, ClocksBalanced, Untouched};
 ghost use Rattle.rrvm.specs.Openings.{device_openings, FailsToOpen};
 ghost use Rattle.rrvm.specs.Recordings.{HasFront, HasWhole, HasStop};
-ghost use Rattle.rrvm.specs.Endings.{IfEnds, IfStops, IsFresh, OpensNothing, RecordingKept, closed, recording_end_of};
+ghost use Rattle.rrvm.specs.Endings.{IfEnds, IfStops, IsFresh, OpensNothing, KeepsCounts, closed, recording_end_of};
 
 use board::Steps;
 use elf_load::Loaded;
@@ -47,6 +47,8 @@ fn open<W: World>(
     ensures fault { IfErr result OpensNothing }
     ensures unopened { result ≡ Err RecordingEnd.CannotOpenLog → FailsToOpen
         (Sink LogOut (Some log.now)) (W.ledger world.old) (W.ledger world.new) }
+    ensures kept { IfErr result
+        (λ end. KeepsCounts end (W.ledger world.old) (W.ledger world.new)) }
     ensures log_closed { OnErr result (at (W.ledger world.new).opened LogOut
         ≡ at (W.ledger world.old).opened LogOut) }
     ensures openings { OnErr result (OpensFront (W.ledger world.old).openings
@@ -131,7 +133,7 @@ pub(crate) fn record<W: World, L: Ledger>(
     requires firmware { LiesInRam header.now.ram_mib firmware.now }
     ensures whole { IfEnds result (λ reason code.
         HasWhole header.now firmware.now (W.ledger world.old) (W.ledger world.new) reason code) }
-    ensures kept { IfEnds result (λ _ _. RecordingKept (W.ledger world.old) (W.ledger world.new)) }
+    ensures kept { KeepsCounts result (W.ledger world.old) (W.ledger world.new) }
     ensures front { at (W.ledger world.old).opened LogOut < at (W.ledger world.new).opened LogOut
         → HasFront header.now firmware.now (W.ledger world.old) (W.ledger world.new) }
 

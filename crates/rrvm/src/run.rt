@@ -6,10 +6,11 @@ ghost use Rattle.outside.specs.declared.roles.Role.TheVariants.{ConsoleIn, Conso
 ghost use Rattle.command_line.specs.Words.{Records, IsInRange};
 ghost use Rattle.event_log.specs.HeaderFormat.{IsHeader};
 ghost use Rattle.outside.specs.Openings.{OpensFront};
-ghost use Rattle.rrvm.specs.Ledgers.{only_run, Balanced, ClocksBalanced, CountsKept, Untouched};
+ghost use Rattle.rrvm.specs.Ledgers.{only_run, Balanced, ClocksBalanced, Untouched};
+ghost use Rattle.rrvm.specs.Faults.{NamesFirstFault};
 ghost use Rattle.rrvm.specs.Openings.{openings_of};
 ghost use Rattle.rrvm.specs.Asking.{asked, recording_header, firmware_outcome_of, ending_outcome_of};
-ghost use Rattle.rrvm.specs.Answers.{Cause, IfRecords, IfRan};
+ghost use Rattle.rrvm.specs.Answers.{Cause, IfRecords};
 ghost use Rattle.rrvm.specs.Recordings.{IsLogged};
 
 use crate::firmware::{FirmwareFault, digest, read_firmware};
@@ -78,7 +79,7 @@ pub(crate) fn run<W: World, L: Ledger>(
     ensures log { at (W.ledger world.old).opened LogOut < at (W.ledger world.new).opened LogOut
         → IfRecords (Records (asked words.now)) (W.ledger world.old)
         (λ r file. IsLogged r file (W.ledger world.old) (W.ledger world.new)) }
-    ensures kept { IfRan result (CountsKept (W.ledger world.old) (W.ledger world.new)) }
+    ensures kept { NamesFirstFault result (W.ledger world.old) (W.ledger world.new) }
     ensures openings { OpensFront (W.ledger world.old).openings (W.ledger world.new).openings
         (openings_of (Records (asked words.now))) }
     ensures untouched { at (W.ledger world.new).opened LogOut

@@ -6,6 +6,9 @@ use Rattle.outside.specs.Ledger.{Ledger}
 use Rattle.outside.specs.Roles.{at}
 use Rattle.outside.specs.declared.roles.Role.TheVariants.{LogOut}
 use Rattle.rrvm.proofs.Fresh.{recorded-whole, recorded-front, recorded-stop, opens-no-stop}
+use Rattle.event_log.specs.HeaderFormat.{header_text}
+use Rattle.rr_engine.specs.Runs.{start_of}
+use Rattle.rrvm.proofs.Counting.{recorded-kept}
 use Rattle.rrvm.proofs.recording.record.Goals as goal
 
 pub returns-clause-whole : goal.returns-clause-whole
@@ -48,3 +51,15 @@ returns-clause-untouched g c = λ unopened few.
     ∙ ap (λ (l : Ledger). at l.opened LogOut) c.in-Ok.ensures.opened in
     let stays : one_more (at old.opened LogOut) ≡ at old.opened LogOut = sym more ∙ unopened in
     absurd (omega (arith, stays, few))
+
+pub returns-clause-kept : goal.returns-clause-kept
+returns-clause-kept g c =
+    recorded-kept (start_of c.args.header.now c.args.firmware.now) (header_text c.args.header.now)
+    (g.W.World.ledger c.args.world.now) (g.W.World.ledger c.open.new.world)
+    (g.W.World.ledger c.close.new.world) c.in-Ok.parts c.record_one-end.new.parts
+    c.record_one-end.result c.recording_end.result c.in-Ok.ensures.fresh
+    (record {
+      opening = ap (λ (l : Ledger). l.opening_faults) c.in-Ok.ensures.opened;
+      faults = ap (λ (l : Ledger). l.faults) c.in-Ok.ensures.opened;
+    })
+    c.record_one-end.ensures c.close.ensures c.recording_end.ensures

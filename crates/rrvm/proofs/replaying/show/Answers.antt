@@ -23,6 +23,6 @@ returns-clause-shown g c =
     c.replay_one-end.result
     (subst (λ k. StartsEmpty (g.W.Sink.Sink.taken k)) (sym c.new-out.ensures) c.in-Ok.ensures.empty)
     (ap (λ k. g.W.Sink.Sink.faults k) c.new-out.ensures ∙ c.in-Ok.ensures.fresh)
-    c.replay_one-end.ensures c.in-Ok.ensures.opened
+    c.replay_one-end.ensures.replays c.in-Ok.ensures.opened
     (c.take_sink.ensures.back ∙ ap (λ k. sink_back (g.W.World.ledger c.sink.new.self) ConsoleOut
     (g.W.Sink.Sink.faults k) (g.W.Sink.Sink.taken k)) c.into_inner.ensures)

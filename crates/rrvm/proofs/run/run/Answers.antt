@@ -6,6 +6,7 @@ use Rattle.outside.specs.Roles.{at}
 use Rattle.outside.specs.declared.roles.Role.TheVariants.{LogOut}
 use Rattle.rrvm.specs.Asking.{asked}
 use Rattle.rrvm.proofs.Ran.{Gives, run-cause, run-logged}
+use Rattle.rrvm.proofs.Counting.{run-named}
 use Rattle.rrvm.proofs.run.run.Goals as goal
 
 pub returns-clause-cause : goal.returns-clause-cause
@@ -43,3 +44,14 @@ pub returns-clause-openings : goal.returns-clause-openings
 returns-clause-openings g c =
     OpensFront-after _ _ _ (firmware_opening c.args.words.now.bios.now ∷ [])
     (device_openings c.args.words.now.log.now) c.in-Ok.ensures.opened c.record.ensures.openings
+
+pub returns-clause-kept : goal.returns-clause-kept
+returns-clause-kept g c =
+    run-named (g.W.World.ledger c.args.world.now) (g.W.World.ledger c.read_firmware.new.world)
+    (g.W.World.ledger c.record.new.world) c.record.result c.ending_outcome.result
+    (record {
+      read = c.in-Ok.ensures.kept;
+      only_read = c.in-Ok.ensures.rest;
+      only_recorded = c.record.ensures.rest;
+    })
+    c.record.ensures.kept c.ending_outcome.ensures

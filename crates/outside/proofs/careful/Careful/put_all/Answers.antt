@@ -8,6 +8,7 @@ pub loop-done-init : goal.loop-done-init
 loop-done-init g c = record {
   within = omega arith;
   taken = subst (λ s. Takes (g.S.Sink.taken s) (g.S.Sink.taken c.self.inside.sink) []) c.self.view_is (Takes-refl _);
+  role = ap g.S.Sink.role c.self.view_is;
   faults = ap g.S.Sink.faults c.self.view_is;
 }
 
@@ -17,6 +18,7 @@ loop-done-preserved g c =
     record {
       within = grind (arith, length-take {A = ℕ}, length-drop {A = ℕ}, c.in_ok-done.ensures.count);
       taken = Takes-next _ _ _ _ _ _ i.taken c.in_ok-done.ensures.bytes;
+      role = c.in_ok-done.ensures.role ∙ i.role;
       faults = c.in_ok-done.ensures.cause.kept ∙ i.faults;
     }
 
