@@ -1,4 +1,5 @@
-//! Guests of a few words: one prints a letter and ends the run, one traps, and those that use RAM.
+//! Guests of a few words: one prints a letter and ends the run, one traps, and those that use RAM
+//! and devices.
 
 ghost use Rattle.std.specs.Prelude.{◌≡◌, ◌<◌, ◌≤◌, ◌^◌};
 

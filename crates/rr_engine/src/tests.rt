@@ -118,7 +118,8 @@ fn replay<L: Ledger>(
     Ok((end, out.into_inner().bytes().to_vec(alloc)?))
 }
 
-/// Each window has the next piece of the input, and a read that fails stops the recording.
+/// Each window has the next piece of the input, and a read that fails stops the recording. A replay
+/// ends by the END that the log has.
 fn typing<L: Ledger>(rt: &impl Abort, alloc: Global, blank: Blank) -> Result<(), Fail>
     requires name { blank.name ≡ L.name }
     requires parts { blank.parts ≡ L.parts }
@@ -126,18 +127,19 @@ fn typing<L: Ledger>(rt: &impl Abort, alloc: Global, blank: Blank) -> Result<(),
 {
     let mut steps: Steps<L> = Steps::open(blank);
     let end = RunEnd::End { reason: 0, code: 0 };
-    let rows: [(&[usize], &[u64], RunEnd, &[u8], &[u8]); 3] = [
-        (&[1, 2], &[], end, &TYPED, b"abc"),
-        (&[3], &[], end, &TYPED_AT_ONCE, b"abc"),
+    let rows: [(&[usize], &[u64], RunEnd, &[u8], &[u8], u8); 3] = [
+        (&[1, 2], &[], end, &TYPED, b"abc", 0),
+        (&[3], &[], end, &TYPED_AT_ONCE, b"abc", 0),
         (
             &[],
             &[0],
             RunEnd::ConsoleRead,
             b"\0\0\0\0\x64\x05\0\x06\x03\0\0\0\0",
             b"",
+            3,
         ),
     ];
-    for (chunks, reads, end, events, console) in rows {
+    for (chunks, reads, end, events, console, reason) in rows {
         let mut parts = parts(alloc, b"abc", chunks, reads, &[])?;
         let ended = record(alloc, &ECHO, &header(100, 1000), &mut parts, &mut steps)?;
         assert_eq!(rt; ended, end);
@@ -146,7 +148,9 @@ fn typing<L: Ledger>(rt: &impl Abort, alloc: Global, blank: Blank) -> Result<(),
         assert!(rt; log.bytes().len() > 98);
         assert_eq!(rt; &log.bytes()[98..], events);
         assert_eq!(rt; out.into_inner().bytes(), console);
-        let (_, shown) = replay(alloc, &ECHO, log.bytes(), &[], &mut steps)?;
+        let (ended, shown) = replay(alloc, &ECHO, log.bytes(), &[], &mut steps)?;
+        let whole = matches!(&ended, ReplayEnd::End { reason: again, code: 0 } if *again == reason);
+        assert!(rt; whole);
         assert_eq!(rt; shown.as_slice(), console);
     }
     Ok(())

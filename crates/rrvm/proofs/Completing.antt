@@ -24,7 +24,7 @@ use Rattle.board.specs.declared.control.Ending.{Ending}
 use Rattle.log_order.specs.declared.refusal.Found.TheVariants as found
 use Rattle.log_order.specs.declared.refusal.Refusal.{Refusal}
 use Rattle.log_order.specs.Order.{IsFirstWrong, IsWhole}
-use Rattle.log_order.proofs.Verdicts.{whole-right, one-wrong}
+use Rattle.log_order.proofs.Verdicts.{one-whole, whole-right, one-wrong}
 use Rattle.rr_engine.specs.Runs.{start_of}
 use Rattle.rrvm.specs.declared.difference.Difference.{Difference}
 use Rattle.rrvm.specs.declared.difference.Difference.TheVariants as difference
@@ -33,20 +33,11 @@ use Rattle.rrvm.specs.declared.outcome.Outcome.TheVariants.{Printed, GuestEnded,
 use Rattle.rrvm.specs.Ledgers.{CountsStood}
 use Rattle.rrvm.specs.Outcomes.{status_of}
 use Rattle.rrvm.specs.Replays.{HasHeader, IsBadHeader, word_difference, IsBadImage, Starts, IsDifferent, IsReplayed, IsRefusedLog, IsReplayedToLimit, IsTooLong, IsUndecided, IsWrongLog, IsReplayable, IsRefusable, read_of}
+use Rattle.rrvm.proofs.Headed.{one-header}
 use Rattle.rrvm.proofs.LogLimits.{all-read}
 use Rattle.rrvm.specs.Answers.{Cause, ReplayCause, Explained, IfBoth, ending_status}
 
 -- ---- a log and a file have one header, one image and one verdict
-
-abbrev header_is : Header → Result Header ParseError
-header_is h = Ok h
-
-header-same : (h k : Header) → header_is h ≡ header_is k → h ≡ k
-header-same h k e = cc
-
-one-header : (log : List ℕ) (h k : Header) → HasHeader log h → HasHeader log k → h ≡ k
-one-header log h k a b =
-    header-same h k (one_headers log (Ok h) (Ok k) (a.is, a.stands) (b.is, b.stands))
 
 no-bad-header : (log : List ℕ) (h : Header) (offset : ℕ) → HasHeader log h → IsBadHeader log offset
     → ⊥
@@ -64,7 +55,7 @@ loads_as f = Ok f
 loaded-same : (f g : Loaded) → loads_as f ≡ loads_as g → f ≡ g
 loaded-same f g e = cc
 
-same-start : (r : Replaying) (log file : List ℕ) (h k : Header) (f g : Loaded)
+pub same-start : (r : Replaying) (log file : List ℕ) (h k : Header) (f g : Loaded)
     → Starts r log file h f → Starts r log file k g → start_of h f ≡ start_of k g
 same-start r log file h k f g a b =
     let header : h ≡ k = one-header log h k a.has b.has in
@@ -73,40 +64,10 @@ same-start r log file h k f g a b =
     let image : f ≡ g = loaded-same f g (sym a.image.loads ∙ again) in
     ap (λ (z : Header). start_of z f) header ∙ ap (λ (z : Loaded). start_of k z) image
 
--- a byte behind the end of a run is refused
-abbrev behind : State → List Event → Refusal
-behind last events = record {
-  index = length events;
-  offset = 0 + length (texts events);
-  due = due last;
-  found = found.MoreBytes;
-}
-
-behind-whole : (bytes : List ℕ) (g last : State) (w : IsWhole bytes g last)
-    → IsFirstWrong (bytes ++ 0 ∷ []) 0 g (behind last w.events) last last
-behind-whole bytes g last w = record {
-  events = w.events;
-  rest = 0 ∷ [];
-  accepted = record {
-    parts = ap (λ (z : List ℕ). z ++ 0 ∷ []) w.accepted.parts
-        ∙ append_assoc (texts w.events) [] (0 ∷ []);
-    are = w.accepted.are;
-    runs = w.accepted.runs;
-  };
-  index = refl;
-  offset = refl;
-  wrong = (w.ended, λ e. absurd cc, refl, refl);
-}
-
-one-whole : (bytes : List ℕ) (g a b : State) → IsWhole bytes g a → IsWhole bytes g b → a ≡ b
-one-whole bytes g a b v w =
-    (one-wrong (bytes ++ 0 ∷ []) 0 g a a b b (behind a v.events) (behind b w.events)
-    (behind-whole bytes g a v) (behind-whole bytes g b w)).2
-
-abbrev ending : ℕ → ℕ → Ending
+abbrev pub ending : ℕ → ℕ → Ending
 ending reason code = record { reason = reason; code = code }
 
-some-ended : (x y : Ending) → Some x ≡ Some y → x ≡ y
+pub some-ended : (x y : Ending) → Some x ≡ Some y → x ≡ y
 some-ended x y e = cc
 
 ended-as : (m n reason code : ℕ) → ending m n ≡ ending reason code
@@ -123,7 +84,7 @@ ending-same a b m n reason code same e f =
 -- ---- a log has one verdict
 
 -- a log that is accepted whole isn't wrong
-whole-not-wrong : (log : List ℕ) (start whole mid last : State) (refusal : Refusal)
+pub whole-not-wrong : (log : List ℕ) (start whole mid last : State) (refusal : Refusal)
     → length log ≤ 2 ^ 40 → IsWhole (drop 98 log) start whole
     → IsWrongLog log start refusal mid last → ⊥
 whole-not-wrong log start whole mid last refusal short w x =
@@ -177,7 +138,7 @@ no-difference r log file held h k f which told s has d =
 
 -- ---- what comes to a replay that starts
 
-if-told : (o : Option (List ℕ)) (log : List ℕ) (P : List ℕ → Type 0) → o ≡ Some log → IfSome o P
+pub if-told : (o : Option (List ℕ)) (log : List ℕ) (P : List ℕ → Type 0) → o ≡ Some log → IfSome o P
     → P log
 if-told o log P told k = subst (λ (z : Option (List ℕ)). IfSome z P) told k
 

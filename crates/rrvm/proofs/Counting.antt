@@ -38,19 +38,21 @@ held l k same role = ap (λ p. at p role) same.faults
 records-keep : (start : State) (head : List ℕ) (l k : Ledger) (old new : Devices) (end : RunEnd)
     → IsFresh l old → AsBefore l k → Records start head old new end
     → KeepsCounts (recording_end_of end) l (closed k new)
-records-keep start head l k old new (End reason code) fresh same r =
-    (same.opening,
-    given-back _ _ _ _ (held l k same ConsoleIn) r.4 fresh.input_faults,
-    given-back _ _ _ _ (held l k same ConsoleOut) r.3 fresh.console_faults,
-    given-back _ _ _ _ (held l k same LogOut) r.2 fresh.log_faults)
+records-keep start head l k old new (End reason code) fresh same r = (
+  same.opening,
+  given-back _ _ _ _ (held l k same ConsoleIn) r.4 fresh.input_faults,
+  given-back _ _ _ _ (held l k same ConsoleOut) r.3 fresh.console_faults,
+  given-back _ _ _ _ (held l k same LogOut) r.2 fresh.log_faults,
+)
 records-keep start head l k old new ConsoleRead fresh same r =
     (same.opening, given-back _ _ _ _ (held l k same ConsoleOut) r.3 fresh.console_faults)
 records-keep start head l k old new ConsoleWrite fresh same r =
     (same.opening, given-back _ _ _ _ (held l k same ConsoleIn) r.3 fresh.input_faults)
-records-keep start head l k old new LogWrite fresh same r =
-    (same.opening,
-    given-back _ _ _ _ (held l k same ConsoleIn) r.3 fresh.input_faults,
-    given-back _ _ _ _ (held l k same ConsoleOut) r.2 fresh.console_faults)
+records-keep start head l k old new LogWrite fresh same r = (
+  same.opening,
+  given-back _ _ _ _ (held l k same ConsoleIn) r.3 fresh.input_faults,
+  given-back _ _ _ _ (held l k same ConsoleOut) r.2 fresh.console_faults,
+)
 records-keep start head l k old new NoMemory fresh same r = tt
 
 pub recorded-kept : (start : State) (head : List ℕ) (l k m : Ledger) (old new : Devices)

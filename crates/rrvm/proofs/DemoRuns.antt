@@ -1,6 +1,5 @@
 -- The recording and the replay of a demonstration.
 use Rattle.std.proofs.Common.{◌≡◌, ◌≤◌, ◌+◌, ◌^◌, ℕ, zero, suc, true, List, [], ◌∷◌, ◌++◌, length, take, drop, replicate, refl, sym, ap, ◌∙◌, subst, arith, append-nil, length-append, inl, inr, Global}
-use Rattle.std.proofs.Math.Seq.{drop-append_seam}
 use Rattle.std.specs.Prelude.{Some, None, IfSome, IfOk, is_some, option_map, Result, Ok, Err, String, string_bytes, codes}
 use Rattle.std.specs.Fmt.{decimal}
 use Rattle.std.specs.declared.alloc.AllocError.{AllocError}
@@ -39,6 +38,7 @@ use Rattle.rr_engine.specs.Replaying.{Played, played, PlaysToWrong, PlaysToLimit
 use Rattle.rr_engine.proofs.Limits.{all-within}
 use Rattle.rrvm.specs.Guests.{guest_bytes}
 use Rattle.rrvm.specs.Replays.{HasHeader}
+use Rattle.rrvm.proofs.Headed.{behind-text, begins, one-header}
 use Rattle.rrvm.specs.Demos.{demo_header, AreZero, Demonstration, demo_line, IsRecording, IsRecordedFrom, IsBehindHeader, HasEvents}
 
 -- ---- what the devices of a recording tell
@@ -125,14 +125,6 @@ recorded start head log console p q calls reason code a b c d e f g counted r =
 
 -- ---- the header of a log
 
--- what follows the header
-pub behind-text : (h : Header) (log rest : List ℕ) → IsHeader h → log ≡ header_text h ++ rest
-    → drop 98 log ≡ rest
-behind-text h log rest is parts =
-    ap (drop 98) parts
-    ∙ ap (λ (n : ℕ). drop n (header_text h ++ rest)) (sym (header_length h is))
-    ∙ drop-append_seam (header_text h) rest
-
 -- a header that was read, and what is ahead behind it
 record Passed (h : Header) (log : List ℕ) (left : Option (List ℕ)) : Type 0 where
   pub stands : log ≡ header_text h ++ drop 98 log
@@ -166,16 +158,6 @@ headed log old new h e k = record {
   works = k.0.works;
   faults = k.0.faults ∙ ap (λ (r : Reader). r.faults) e;
 }
-
-abbrev header_is : Header → Result Header ParseError
-header_is h = Ok h
-
-header-same : (h k : Header) → header_is h ≡ header_is k → h ≡ k
-header-same h k e = cc
-
-pub one-header : (log : List ℕ) (h k : Header) → HasHeader log h → HasHeader log k → h ≡ k
-one-header log h k a b =
-    header-same h k (one_headers log (Ok h) (Ok k) (a.is, a.stands) (b.is, b.stands))
 
 -- a log that begins with a header has no fault there
 pub no-fault : (log : List ℕ) (new : Reader) (h : Header) (error : StreamError) → IsHeader h
@@ -219,11 +201,7 @@ recording-text start h log console is r = behind-text h log (texts r.events) is 
 
 pub recording-starts : (start : State) (h : Header) (log console : List ℕ) → IsHeader h
     → IsRecording start (header_text h) log console → HasHeader log h
-recording-starts start h log console is r = record {
-  is = is;
-  stands = r.log ∙ ap (λ (z : List ℕ). header_text h ++ z)
-      (sym (recording-text start h log console is r));
-}
+recording-starts start h log console is r = begins h log (texts r.events) is r.log
 
 -- a log has one header: it was recorded from the one that is read in its copy
 pub recorded-from : (firmware : Loaded) (log copy console : List ℕ) (h : Header)

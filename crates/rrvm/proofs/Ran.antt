@@ -40,10 +40,10 @@ pub start-quiet : (h : Header) (firmware : Loaded) → (start_of h firmware).dev
 unfolding reset
 start-quiet h firmware = refl
 
-header-same : (r : Recording) (file : List ℕ) (f : Firmware) (h : Header)
+asked-header : (r : Recording) (file : List ℕ) (f : Firmware) (h : Header)
     → h ≡ recording_header r f.digest
     → IsFirmwareOf file r.ram_mib f → h ≡ header_of r file
-header-same r file f h same is = same ∙ ap (λ digest. recording_header r digest) is.digest
+asked-header r file f h same is = same ∙ ap (λ digest. recording_header r digest) is.digest
 
 logged-as : (start : Loaded) (r : Recording) (file : List ℕ) (old new : Ledger)
     → HasFront (header_of r file) start old new
@@ -83,7 +83,7 @@ front-same : (r : Recording) (file : List ℕ) (f : Firmware) (h : Header) (old 
     → IsFirmwareOf file r.ram_mib f → h ≡ recording_header r f.digest → IsRead old mid
     → HasFront h f.loaded mid new → HasFront (header_of r file) f.loaded old new
 front-same r file f h old mid new gives same read front =
-    subst (λ (z : Header). HasFront z f.loaded old new) (header-same r file f h same gives)
+    subst (λ (z : Header). HasFront z f.loaded old new) (asked-header r file f h same gives)
     (front-of h f.loaded old mid new read front)
 
 pub run-logged : (held : Option (List ℕ)) (r : Recording) (f : Firmware) (h : Header)
@@ -110,7 +110,7 @@ run-recorded (Some file) r f h old mid new reason code gives same read whole = r
   loads = gives.0.loads;
   fits = gives.1;
   whole = subst (λ (z : Header). HasWhole z f.loaded old new reason code)
-      (header-same r file f h same gives.0)
+      (asked-header r file f h same gives.0)
       (whole-of h f.loaded old mid new reason code read whole);
 }
 
@@ -124,7 +124,7 @@ run-stopped (Some file) r f h shown old mid new gives same read stop = record {
   loads = gives.0.loads;
   fits = gives.1;
   stop = subst (λ (z : Header). HasStop shown z f.loaded old new)
-      (header-same r file f h same gives.0) (stop-of shown h f.loaded old mid new read stop);
+      (asked-header r file f h same gives.0) (stop-of shown h f.loaded old mid new read stop);
 }
 
 -- the log's count before the firmware's file was read was the same

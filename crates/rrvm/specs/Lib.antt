@@ -16,3 +16,4 @@ pub mod Replays
 pub mod Images
 pub mod Playing
 pub mod Answers
+pub mod ReplayedAlike

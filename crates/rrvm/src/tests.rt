@@ -8,14 +8,21 @@ mod replays;
 mod streams;
 mod texts;
 
-use crate::top::{Status, rrvm_main};
+use crate::top::rrvm_main;
 use outside::{MemWorld, Role};
-use std::alloc::{AllocError, Global};
+use std::alloc::{AllocError, AllocGlobal, Global};
+use std::sync::Wait;
 use std::test::Fail;
+use std::thread::Threads;
 
 /// Prints one letter, and ends the run.
 const LETTER: [u32; 7] = [
     0x100002b7, 0x04100313, 0x00628023, 0x001003b7, 0x00005337, 0x55530313, 0x0063a023,
+];
+
+/// Stores a letter to RAM twice, and ends the run.
+const STORES: [u32; 8] = [
+    0x800012b7, 0x04100313, 0x00628023, 0x00628023, 0x001003b7, 0x00005337, 0x55530313, 0x0063a023,
 ];
 
 /// Waits for the timer, whose interrupt then ends the run.
@@ -51,6 +58,17 @@ fn words(alloc: Global, line: &str) -> Result<Vec<String>, AllocError> {
     Ok(words)
 }
 
+/// The status of these words over a world. It promises nothing, so that a test is proved without the
+/// clauses of the top call.
+fn status_of<R: Threads + Wait + Sync + AllocGlobal>(
+    rt: &R,
+    line: &str,
+    world: &mut MemWorld,
+) -> Result<u8, AllocError> {
+    let words = words(rt.alloc(), line)?;
+    Ok(rrvm_main(rt, &words, world).code)
+}
+
 /// A world whose file fw has these words.
 fn world(alloc: Global, guest: &[u32]) -> Result<MemWorld, AllocError> {
     let mut file = Vec::new(alloc);
@@ -66,9 +84,7 @@ fn world(alloc: Global, guest: &[u32]) -> Result<MemWorld, AllocError> {
 fn a_letter_is_recorded_byte_for_byte(rt: HostRuntime) -> Result<(), Fail> {
     let alloc = rt.alloc();
     let mut world = world(alloc, &LETTER)?;
-    let words = words(alloc, ICOUNT)?;
-    let status = rrvm_main(&rt, &words, &mut world);
-    assert_eq!(rt; status, Status { code: 0 });
+    assert_eq!(rt; status_of(&rt, ICOUNT, &mut world)?, 0);
     assert_eq!(rt; world.written(Role::LogOut), LETTER_LOG.as_slice());
     assert_eq!(rt; world.written(Role::ConsoleOut), b"A".as_slice());
     assert_eq!(rt; world.written(Role::Messages), b"".as_slice());
@@ -81,7 +97,8 @@ fn guests_have_the_events_of_their_runs(rt: HostRuntime) -> Result<(), Fail> {
     let ecall: [u32; 1] = [0x00000073];
     let wait: [u32; 1] = [0x10500073];
     let jump: [u32; 1] = [0x0000006f];
-    let cases: [(&str, &[u32], u8, &[u8]); 10] = [
+    let cases: [(&str, &[u32], u8, &[u8]); 11] = [
+        ("", &STORES, 0, b"\0\0\0\0\x08\x06\0\0\0\0\0"),
         (" -budget 5", &LETTER, 13, b"\0\0\0\0\x05\x06\x02\0\0\0\0"),
         (" -budget 7", &LETTER, 0, b"\0\0\0\0\x07\x06\0\0\0\0\0"),
         (
@@ -128,9 +145,8 @@ fn guests_have_the_events_of_their_runs(rt: HostRuntime) -> Result<(), Fail> {
         let mut world = world(alloc, guest)?;
         let mut line = String::from_str(alloc, ICOUNT)?;
         line.push_str(more)?;
-        let words = words(alloc, line.as_str())?;
-        let status = rrvm_main(&rt, &words, &mut world);
-        assert_eq!(rt; status.code, code, "{more}");
+        let status = status_of(&rt, line.as_str(), &mut world)?;
+        assert_eq!(rt; status, code, "{more}");
         let log = world.written(Role::LogOut);
         assert!(rt; log.len() >= 98);
         assert_eq!(rt; &log[98..], events, "{more}");
@@ -167,9 +183,8 @@ fn each_fault_has_its_status_and_message(rt: HostRuntime) -> Result<(), Fail> {
         world.set_failing_opens(vec![in alloc; open]?);
         world.set_failing(Role::LogOut, vec![in alloc; log]?);
         world.set_failing(Role::ConsoleOut, vec![in alloc; console]?);
-        let words = words(alloc, line)?;
-        let status = rrvm_main(&rt, &words, &mut world);
-        assert_eq!(rt; status.code, code, "{line}");
+        let status = status_of(&rt, line, &mut world)?;
+        assert_eq!(rt; status, code, "{line}");
         assert_eq!(rt; world.written(Role::LogOut).len(), log_len, "{line}");
         assert_eq!(rt;
             world.written(Role::ConsoleOut).len(),

@@ -18,6 +18,7 @@ ghost use Rattle.rrvm.specs.Messages.{line_of};
 ghost use Rattle.rrvm.specs.Firmwares.{IsBadFirmware};
 ghost use Rattle.rrvm.specs.Recordings.{IsGood, IsLogged};
 ghost use Rattle.rrvm.specs.Replays.{IsShown, IsReplayable, IsRefusable, IsTooLong};
+ghost use Rattle.rrvm.specs.ReplayedAlike.{IsReplayedAlike};
 ghost use Rattle.rrvm.specs.Answers.{Cause, Explained, IfRecords, IfReplays, IfDemonstrates, Names, IsEnded, IsPrinted, IsPrintedFront, IfRecording, IsWordFault, HasRun, ending_status};
 
 use crate::message::message;
@@ -244,6 +245,17 @@ pub fn rrvm_main<R: Threads + Wait + Sync + AllocGlobal, W: World>(
         → (W.ledger world.old).names r.bios ≡ Some file → IsGood r file
         → CountsStood (W.ledger world.old) (W.ledger world.new)
         → HasRun result.code ⊎ (result.code ≡ 30) }
+
+    // A recorded log is replayable: where the machine ran to an end, a replay of what the log's sink
+    // took, over the same file and by words that give its shift and RAM or none, is never refused. It
+    // ends as the recording did, with its console bytes.
+    ensures replayable { HasRun result.code → (r : Recording) (log file : List ℕ)
+        → line_in words.now ≡ Records r
+        → (W.ledger world.old).names r.bios ≡ Some file
+        → at (W.ledger world.new).last LogOut ≡ Some log
+        → length log ≤ 2 ^ 40
+        → (reason : ℕ) × (code : ℕ) × (result.code ≡ ending_status reason code)
+        × IsReplayedAlike r log file (W.ledger world.new) reason code }
 
     // A machine that ran to an end, a text that was printed, or a log that is refused: no device
     // failed, and no opening.

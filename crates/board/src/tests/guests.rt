@@ -1,8 +1,10 @@
-//! Guests that use RAM.
+//! Guests that use RAM, the interrupt controller, the timer and the host's clock.
 
 ghost use Rattle.std.specs.Prelude.{◌≡◌, ◌<◌};
+ghost use Rattle.event_log.specs.Spelling.{IsEvent};
 
 use super::*;
+use outside::Bytes;
 
 /// Stores `A` twice to RAM at 80001000, and ends the run.
 const STORES: [u32; 8] = [
@@ -31,6 +33,29 @@ const SUMS: [u32; 33] = [
     0x001002b7, 0x00005337, 0x55530313, 0x0062a023,
 ];
 
+/// Enables the UART's interrupt, source 10, and waits. Its handler claims, takes the byte, prints
+/// the letter 55 above the claim, and completes.
+#[rattlefmt::skip]
+const CLAIMS: [u32; 25] = [
+    0x00000297, 0x04c28293, 0x30529073,             // mtvec
+    0x0c000437, 0x0c0024b7, 0x0c200937, 0x100009b7, // the PLIC, its enables, its claims; the UART
+    0x00100313, 0x02642423, 0x40000313, 0x0064a023, // priority 1, and enabled
+    0x00100313, 0x006980a3,                         // IER: received data
+    0x00001337, 0x80030313, 0x30431073, 0x30046073, // MEIE and MIE
+    0x10500073, 0xffdff06f,                         // wfi, again and again
+    0x00492503, 0x03750593, 0x0009c603, 0x00b98023, // claim, letter, byte, print
+    0x00a92223, 0x30200073,                         // complete, mret
+];
+
+/// Sets the timer to 1000, and waits. Its interrupt ends the run.
+const TIMER: [u32; 16] = [
+    0x00000297, 0x03028293, 0x30529073, 0x02004337, 0x3e800393, 0x00732023, 0x00032223, 0x08000413,
+    0x30441073, 0x30046073, 0x10500073, 0x0000006f, 0x001003b7, 0x00005337, 0x55530313, 0x0063a023,
+];
+
+/// Reads both words of the host's clock.
+const CLOCK: [u32; 3] = [0x001012b7, 0x0002a503, 0x0042a583];
+
 const END: Due = Due::End { reason: 0, code: 0 };
 
 /// A machine of 1 MiB with a guest.
@@ -55,6 +80,13 @@ fn runs<L: Ledger>(
     Ok(())
 }
 
+/// Asserts that an event is taken.
+fn takes(rt: &impl Abort, machine: &mut Machine, event: &Event)
+    requires { IsEvent event.now }
+{
+    assert_eq!(rt; machine.accept(event, &[]), Ok(()));
+}
+
 fn store<L: Ledger>(rt: &impl Abort, alloc: Global, blank: Blank) -> Result<(), Fail>
     requires name { blank.name ≡ L.name }
     requires parts { blank.parts ≡ L.parts }
@@ -75,4 +107,60 @@ fn store<L: Ledger>(rt: &impl Abort, alloc: Global, blank: Blank) -> Result<(), 
 #[test]
 fn what_guests_store_is_read(rt: HostRuntime) -> Result<(), Fail> {
     store::<Brand>(&rt, rt.alloc(), Blank::new(1))
+}
+
+fn claim<L: Ledger>(rt: &impl Abort, alloc: Global, blank: Blank) -> Result<(), Fail>
+    requires name { blank.name ≡ L.name }
+    requires parts { blank.parts ≡ L.parts }
+    requires some { 0 < L.parts }
+{
+    let mut steps: Steps<L> = Steps::open(blank);
+    let mut machine = with_guest(alloc, &CLAIMS)?;
+    // With the way back to WFI the second time has as many turns as the handler and two.
+    for turns in [18, 8] {
+        runs(rt, &mut machine, &mut steps, turns, Due::Idle)?;
+        takes(rt, &mut machine, &Event::Checkpoint { idle: true });
+        let byte = Bytes::of(alloc, b"x")?;
+        takes(rt, &mut machine, &Event::CharRead(byte));
+        assert_eq!(rt; machine.due(), Due::Interrupt);
+        takes(rt, &mut machine, &Event::Interrupt);
+    }
+    runs(rt, &mut machine, &mut steps, 8, Due::Idle)?;
+    assert_eq!(rt; machine.take_out().as_slice(), b"AA".as_slice());
+    Ok(())
+}
+
+#[test]
+fn each_byte_is_claimed_and_completed(rt: HostRuntime) -> Result<(), Fail> {
+    claim::<Brand>(&rt, rt.alloc(), Blank::new(1))
+}
+
+fn wait<L: Ledger>(rt: &impl Abort, alloc: Global, blank: Blank) -> Result<(), Fail>
+    requires name { blank.name ≡ L.name }
+    requires parts { blank.parts ≡ L.parts }
+    requires some { 0 < L.parts }
+{
+    let mut steps: Steps<L> = Steps::open(blank);
+    let mut machine = with_guest(alloc, &TIMER)?;
+    runs(rt, &mut machine, &mut steps, 11, Due::Idle)?;
+    takes(rt, &mut machine, &Event::Checkpoint { idle: true });
+    takes(rt, &mut machine, &Event::Interrupt);
+    // The clock stood at 11, and skipped 99989 to the tick 1000.
+    assert_eq!(rt; machine.devices.time.nanoseconds(), 100_000);
+    runs(rt, &mut machine, &mut steps, 4, END)?;
+    assert_eq!(rt; machine.devices.time.nanoseconds(), 100_004);
+    assert_eq!(rt; machine.devices.inputs().time, 1000);
+
+    let mut machine = with_guest(alloc, &CLOCK)?;
+    runs(rt, &mut machine, &mut steps, 1, Due::Clock)?;
+    takes(rt, &mut machine, &Event::Clock(0x0123_4567_89ab_cdef));
+    assert_eq!(rt; machine.run(2, &mut steps)?, 2);
+    assert_eq!(rt; machine.hart.x.get(10), 0x89ab_cdef);
+    assert_eq!(rt; machine.hart.x.get(11), 0x0123_4567);
+    Ok(())
+}
+
+#[test]
+fn both_clocks_show_what_is_due(rt: HostRuntime) -> Result<(), Fail> {
+    wait::<Brand>(&rt, rt.alloc(), Blank::new(1))
 }

@@ -1,7 +1,7 @@
 //! Demonstrations over a world in memory, by both top calls.
 
-use super::words;
-use crate::top::{Status, rrvm_main, rrvm_quiet};
+use super::{status_of, words};
+use crate::top::rrvm_quiet;
 use outside::{MemWorld, Role};
 use std::alloc::AllocGlobal;
 use std::process::Abort;
@@ -16,9 +16,8 @@ fn shows<R: Threads + Wait + Sync + AllocGlobal + Abort>(
     shown: &str,
 ) -> Result<(), Fail> {
     let alloc = rt.alloc();
-    let words = words(alloc, line)?;
     let mut world = MemWorld::new(alloc);
-    assert_eq!(rt; rrvm_main(rt, &words, &mut world), Status { code: 0 });
+    assert_eq!(rt; status_of(rt, line, &mut world)?, 0);
     assert_eq!(rt; world.written(Role::ConsoleOut), shown.as_bytes());
     assert_eq!(rt; world.written(Role::Messages), b"".as_slice());
     Ok(())

@@ -1,7 +1,6 @@
 //! Firmware in an ELF file, over a world in memory.
 
-use super::{ICOUNT, LETTER, words};
-use crate::top::rrvm_main;
+use super::{ICOUNT, LETTER, status_of};
 use outside::{MemWorld, Role};
 use std::alloc::{AllocError, Global};
 use std::test::Fail;
@@ -30,8 +29,7 @@ fn world(alloc: Global, machine: u8) -> Result<MemWorld, AllocError> {
 fn an_elf_file_runs_as_its_segment(rt: HostRuntime) -> Result<(), Fail> {
     let alloc = rt.alloc();
     let mut world = world(alloc, 243)?;
-    let words = words(alloc, ICOUNT)?;
-    assert_eq!(rt; rrvm_main(&rt, &words, &mut world).code, 0);
+    assert_eq!(rt; status_of(&rt, ICOUNT, &mut world)?, 0);
     assert_eq!(rt; world.written(Role::ConsoleOut), b"A".as_slice());
     let log = world.written(Role::LogOut);
     assert!(rt; log.len() >= 98);
@@ -43,8 +41,7 @@ fn an_elf_file_runs_as_its_segment(rt: HostRuntime) -> Result<(), Fail> {
 fn a_file_for_another_machine_is_bad_firmware(rt: HostRuntime) -> Result<(), Fail> {
     let alloc = rt.alloc();
     let mut world = world(alloc, 62)?;
-    let words = words(alloc, ICOUNT)?;
-    assert_eq!(rt; rrvm_main(&rt, &words, &mut world).code, 8);
+    assert_eq!(rt; status_of(&rt, ICOUNT, &mut world)?, 8);
     assert_eq!(rt;
         world.written(Role::Messages),
         b"rrvm: bad firmware: machine\n".as_slice()

@@ -1,8 +1,7 @@
 //! Recordings of guests that read the console or the host's clock, over a world in memory.
 
 use super::replays::{REPLAY, log_of, replays, world_with};
-use super::{words, world};
-use crate::top::{Status, rrvm_main};
+use super::{status_of, world};
 use outside::{MemWorld, Role};
 use std::alloc::{AllocError, AllocGlobal};
 use std::sync::Wait;
@@ -36,23 +35,20 @@ const UNREAD: &[u8] = b"\0\0\0\0\x64\x05\0\x06\x03\0\0\0\0";
 fn echo<R: Threads + Wait + Sync + AllocGlobal>(
     rt: &R,
     failing: u64,
-) -> Result<(Status, MemWorld), AllocError> {
+) -> Result<(u8, MemWorld), AllocError> {
     let alloc = rt.alloc();
     let mut world = world(alloc, &ECHO)?;
     world.set_input(b"abc".to_vec(alloc)?);
     world.set_failing(Role::ConsoleIn, vec![in alloc; failing]?);
-    let words = words(
-        alloc,
-        "-icount shift=0,rr=record,rrfile=log -bios fw -slice 100",
-    )?;
-    let status = rrvm_main(rt, &words, &mut world);
+    let line = "-icount shift=0,rr=record,rrfile=log -bios fw -slice 100";
+    let status = status_of(rt, line, &mut world)?;
     Ok((status, world))
 }
 
 #[test]
 fn a_window_has_the_input_that_was_read_in_it(rt: HostRuntime) -> Result<(), Fail> {
     let (status, world) = echo(&rt, 9)?;
-    assert_eq!(rt; status, Status { code: 0 });
+    assert_eq!(rt; status, 0);
     let log = world.written(Role::LogOut);
     assert!(rt; log.len() >= 98);
     assert_eq!(rt; &log[98..], AT_ONCE);
@@ -64,7 +60,7 @@ fn a_window_has_the_input_that_was_read_in_it(rt: HostRuntime) -> Result<(), Fai
 #[test]
 fn input_that_fails_stops_its_recording(rt: HostRuntime) -> Result<(), Fail> {
     let (status, world) = echo(&rt, 0)?;
-    assert_eq!(rt; status, Status { code: 3 });
+    assert_eq!(rt; status, 3);
     let log = world.written(Role::LogOut);
     assert!(rt; log.len() >= 98);
     assert_eq!(rt; &log[98..], UNREAD);
@@ -98,11 +94,8 @@ fn a_log_has_what_the_hosts_clock_gave(rt: HostRuntime) -> Result<(), Fail> {
     let alloc = rt.alloc();
     let mut world = world(alloc, &CLOCK)?;
     world.set_clock(vec![in alloc; 0x0123456789abcdef]?);
-    let words = words(
-        alloc,
-        "-icount shift=10,rr=record,rrfile=log -bios fw -slice 11",
-    )?;
-    assert_eq!(rt; rrvm_main(&rt, &words, &mut world).code, 0);
+    let line = "-icount shift=10,rr=record,rrfile=log -bios fw -slice 11";
+    assert_eq!(rt; status_of(&rt, line, &mut world)?, 0);
     let log = world.written(Role::LogOut);
     assert!(rt; log.len() >= 98);
     assert_eq!(rt;

@@ -1,7 +1,6 @@
 //! A recording where an allocation may be refused, by a run with `--fail-alloc`.
 
-use super::{ICOUNT, LETTER, LETTER_LOG, words, world};
-use crate::top::rrvm_main;
+use super::{ICOUNT, LETTER, LETTER_LOG, status_of, world};
 use outside::Role;
 use std::test::Fail;
 
@@ -12,19 +11,18 @@ fn refused_memory_leaves_a_front_of_a_recording(rt: HostRuntime) -> Result<(), F
     let Ok(mut refused) = world(rt.alloc(), &LETTER) else {
         return Ok(());
     };
-    let Ok(given) = words(rt.alloc(), ICOUNT) else {
+    let Ok(status) = status_of(&rt, ICOUNT, &mut refused) else {
         return Ok(());
     };
-    let status = rrvm_main(&rt, &given, &mut refused);
     let log = refused.written(Role::LogOut);
     assert!(rt; LETTER_LOG.starts_with(log));
     assert!(rt; b"A".starts_with(refused.written(Role::ConsoleOut)));
-    if status.code != 30 {
-        assert_eq!(rt; (status.code, log.len()), (0, LETTER_LOG.len()));
+    if status != 30 {
+        assert_eq!(rt; (status, log.len()), (0, LETTER_LOG.len()));
         return Ok(());
     }
     let mut ample = world(rt.alloc(), &LETTER)?;
-    assert_eq!(rt; rrvm_main(&rt, &given, &mut ample).code, 0);
+    assert_eq!(rt; status_of(&rt, ICOUNT, &mut ample)?, 0);
     assert_eq!(rt; ample.written(Role::LogOut), LETTER_LOG.as_slice());
     Ok(())
 }

@@ -1,7 +1,6 @@
 //! Replays over a world in memory: accepted logs, and wrong ones refused at their first wrong event.
 
-use super::{ICOUNT, LETTER, LETTER_LOG, TIMER, words, world};
-use crate::top::rrvm_main;
+use super::{ICOUNT, LETTER, LETTER_LOG, TIMER, status_of, world};
 use outside::{MemWorld, Role};
 use std::alloc::{AllocError, AllocGlobal, Global};
 use std::process::Abort;
@@ -55,8 +54,7 @@ fn recorded<R: Threads + Wait + Sync + AllocGlobal>(
     world.set_failing(Role::ConsoleOut, vec![in alloc; failing]?);
     let mut line = String::from_str(alloc, ICOUNT)?;
     line.push_str(more)?;
-    let words = words(alloc, line.as_str())?;
-    let _ = rrvm_main(rt, &words, &mut world);
+    let _ = status_of(rt, line.as_str(), &mut world)?;
     world.written(Role::LogOut).to_vec(alloc)
 }
 
@@ -69,10 +67,9 @@ pub(crate) fn replays<R: Threads + Wait + Sync + AllocGlobal + Abort>(
     console: &[u8],
     said: &str,
 ) -> Result<(), Fail> {
-    let words = words(rt.alloc(), line)?;
-    let status = rrvm_main(rt, &words, world);
+    let status = status_of(rt, line, world)?;
     assert_eq!(rt; world.written(Role::Messages), said.as_bytes(), "{line}");
-    assert_eq!(rt; status.code, code, "{line}");
+    assert_eq!(rt; status, code, "{line}");
     assert_eq!(rt; world.written(Role::ConsoleOut), console, "{line}");
     Ok(())
 }

@@ -1,8 +1,7 @@
 //! Long logs over a world in memory: they go out by 65,536 bytes.
 
 use super::replays::{REPLAY, replays};
-use super::{ICOUNT, words, world};
-use crate::top::rrvm_main;
+use super::{ICOUNT, status_of, world};
 use outside::Role;
 use std::test::Fail;
 
@@ -12,15 +11,14 @@ fn a_long_log_goes_out_in_pieces(rt: HostRuntime) -> Result<(), Fail> {
     let alloc = rt.alloc();
     let mut line = String::from_str(alloc, ICOUNT)?;
     line.push_str(" -budget 20000")?;
-    let words = words(alloc, line.as_str())?;
 
     let mut whole = world(alloc, &[])?;
-    assert_eq!(rt; rrvm_main(&rt, &words, &mut whole).code, 13);
+    assert_eq!(rt; status_of(&rt, line.as_str(), &mut whole)?, 13);
     assert_eq!(rt; whole.written(Role::LogOut).len(), 120_106);
 
     let mut cut = world(alloc, &[])?;
     cut.set_failing(Role::LogOut, vec![in alloc; 2]?);
-    assert_eq!(rt; rrvm_main(&rt, &words, &mut cut).code, 5);
+    assert_eq!(rt; status_of(&rt, line.as_str(), &mut cut)?, 5);
     let log = cut.written(Role::LogOut);
     assert_eq!(rt; log.len(), 65_634);
     assert!(rt; log.ends_with(&[0, 0]));

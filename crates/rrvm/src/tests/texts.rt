@@ -1,9 +1,8 @@
 //! The texts that stand alone, and words that aren't UTF-8, over a world in memory.
 
-use super::words;
+use super::{status_of, words};
 use crate::printing::{HELP, VERSION};
 use crate::raw_word::rrvm_raw;
-use crate::top::rrvm_main;
 use outside::{MemWorld, Role};
 use std::test::Fail;
 
@@ -11,9 +10,8 @@ use std::test::Fail;
 fn help_and_version_are_printed(rt: HostRuntime) -> Result<(), Fail> {
     let alloc = rt.alloc();
     for (word, text) in [("--help", HELP), ("-h", HELP), ("-version", VERSION)] {
-        let words = words(alloc, word)?;
         let mut world = MemWorld::new(alloc);
-        assert_eq!(rt; rrvm_main(&rt, &words, &mut world).code, 0);
+        assert_eq!(rt; status_of(&rt, word, &mut world)?, 0);
         assert_eq!(rt; world.written(Role::ConsoleOut), text.as_bytes());
         assert_eq!(rt; world.written(Role::Messages), b"".as_slice());
     }

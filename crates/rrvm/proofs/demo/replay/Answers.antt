@@ -30,7 +30,7 @@ unreachable-requires g c =
     old new c.new-out.result out c.requires.recorded c.requires.short c.deref.ensures.value
     c.in_ok-header.ensures.header c.in_ok-header.ensures.behind
     (c.new-out.ensures ∙ c.new.ensures) c.into_inner.ensures.faults)
-    c.replay_one-end.ensures c.in_default.not-End c.in_default.not-NoMemory
+    c.replay_one-end.ensures.replays c.in_default.not-End c.in_default.not-NoMemory
 
 pub returns-in-End : goal.returns-in-End
 returns-in-End g c =
@@ -46,4 +46,4 @@ returns-in-End g c =
     old new c.new-out.result out c.requires.recorded c.requires.short c.deref.ensures.value
     c.in_ok-header.ensures.header c.in_ok-header.ensures.behind
     (c.new-out.ensures ∙ c.new.ensures) c.into_inner.ensures.faults)
-    c.in-End.ensures (sym c.into_inner-in-End.ensures ∙ took)) c.taken-in-End.ensures
+    c.in-End.ensures.replays (sym c.into_inner-in-End.ensures ∙ took)) c.taken-in-End.ensures

@@ -1,6 +1,8 @@
-use Rattle.std.proofs.Common.{map, string_bytes}
+use Rattle.std.proofs.Common.{map, string_bytes, subst}
 use Rattle.command_line.specs.Line.{seen_line, line_in}
+use Rattle.command_line.specs.Words.{IsLineInRange}
 use Rattle.rrvm.proofs.Completing.{replays-told, refuses-told, long-told}
+use Rattle.rrvm.proofs.ReplayedAlike.{replayable-told}
 use Rattle.rrvm.proofs.Statuses.{bad-firmware-told, guest-ended-told, passed-told, unfaulted-told}
 use Rattle.rrvm.proofs.Telling.{told-explained, told-log, told-printed, told-shown, told-openings, told-untouched}
 use Rattle.rrvm.proofs.top.rrvm_main.Goals as goal
@@ -95,3 +97,10 @@ returns-clause-untouched g c =
     (g.W.World.ledger c.args.world.now) (g.W.World.ledger c.answer-outcome.new.world)
     (g.W.World.ledger c.tell-told.new.world)
     c.read_line-line.ensures.value c.tell-told.ensures.rest c.answer-outcome.ensures.untouched
+
+pub returns-clause-replayable : goal.returns-clause-replayable
+returns-clause-replayable g c =
+    replayable-told (map string_bytes c.args.words.now) (line_in c.args.words.now)
+    (g.W.World.ledger c.args.world.now) (g.W.World.ledger c.tell-told.new.world) c.status.result
+    (returns-clause-explained g c)
+    (subst IsLineInRange c.read_line-line.ensures.value c.read_line-line.ensures.range)
