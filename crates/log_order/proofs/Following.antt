@@ -136,7 +136,14 @@ judged-wrong bytes g place p q error.Refused f (what, d, last, wrong, new) = rec
   };
   out = ap (λ (z : Progress). z.out) new ∙ f.out;
 }
-judged-wrong bytes g place p q error.NoMemory f none = none
+judged-wrong bytes g place p q error.NoMemory f (none, wants) = record {
+  unrefused = none;
+  events = f.events;
+  rest = drop place bytes;
+  mid = p.machine;
+  accepted = f.accepted;
+  wants = wants;
+}
 
 pub judged-more : (bytes : List ℕ) (g : State) (place : ℕ) (p q : Progress)
     → Followed bytes g place p

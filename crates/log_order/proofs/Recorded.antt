@@ -35,4 +35,4 @@ recorded-comes events at g last None q are runs ended judged =
 recorded-comes events at g last (Some error.Refused) q are runs ended judged =
     absurd (whole-right (texts events) at g judged.mid q.machine last judged.refusal judged.wrong
     (recorded-whole events g last are runs ended))
-recorded-comes events at g last (Some error.NoMemory) q are runs ended judged = judged
+recorded-comes events at g last (Some error.NoMemory) q are runs ended judged = judged.unrefused
