@@ -1,5 +1,7 @@
 //! What no clause says: that calls succeed, and what the adapters to the host really do.
 
+ghost use Rattle.std.specs.Prelude.{None};
+
 use crate::{
     Bytes, Careful, Failed, HostClock, HostWorld, Image, ListClock, MemImage, MemSink, MemSource,
     MemWorld, OpenError, Role, Sink, Source, StdClock, SureImage, SureSink, SureSource, World,
