@@ -1,5 +1,6 @@
 -- A request acts wholly at its completion (virtio 1.2, 5.2.6).
 use Rattle.std.specs.Prelude.{◌≡◌, ℕ, ◌%◌, ◌^◌, ◌*◌, ◌/◌, List, [], ◌∷◌, length, drop, Bool, true, false, ◌&&◌, not, if◌then◌else◌, Option, Some, None, Result, Ok, Err}
+use Rattle.std.specs.Result.{IsOk}
 use Rattle.vio_mmio.specs.declared.chain.Segment.{Segment}
 use Rattle.vio_mmio.specs.Registers.{Registers}
 use Rattle.vio_mmio.specs.GiveBack.{given_back}
@@ -149,7 +150,7 @@ written_where disk sector sent =
     then with_sectors (sector_of disk) sector sent
     else sector_of disk
 
--- what a completion leaves
+-- what a completion leaves; want of memory stands in place of no refusal
 abbrev pub Completes :
     Drive → Drive → List ℕ → List ℕ → ℕ → Bool → List ℕ → Result (Unit {0}) CompleteError → Type 0
 Completes old new before after id ok base (Ok done) =
@@ -161,4 +162,5 @@ Completes old new before after id ok base (Err (NotInFlight which)) =
 Completes old new before after id ok base (Err (NotARead which)) =
     (completed_over base id ok old before ≡ Err (NotARead which))
     × (new ≡ old) × (after ≡ before)
-Completes old new before after id ok base (Err NoMemory) = (new ≡ old) × (after ≡ before)
+Completes old new before after id ok base (Err NoMemory) =
+    IsOk (completed_over base id ok old before) × (new ≡ old) × (after ≡ before)

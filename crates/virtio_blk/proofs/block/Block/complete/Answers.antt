@@ -6,7 +6,7 @@ use Rattle.std.proofs.lemmas.List.Edits.{length-remove}
 use Rattle.std.proofs.lemmas.List.Quantifiers.{position-Some}
 use Rattle.ram_pages.specs.Draft.{with_pages}
 use Rattle.vio_mmio.specs.GiveBack.{given_back}
-use Rattle.overlay_disk.specs.Sectors.{sector_of}
+use Rattle.overlay_disk.specs.Sectors.{Disk, sector_of}
 use Rattle.virtio_blk.specs.declared.complete.CompleteError.TheVariants.{NotARead}
 use Rattle.virtio_blk.specs.declared.notify.Parsed.{Parsed}
 use Rattle.virtio_blk.specs.Notify.{flight_of, ask_of}
@@ -14,7 +14,7 @@ use Rattle.std.specs.Option.{option_map}
 use Rattle.virtio_blk.specs.Drive.{Drive, flight_in, request_of}
 use Rattle.virtio_blk.specs.Requests.{KindFits}
 use Rattle.virtio_blk.specs.Completed.{BaseFits, answered, completed_over, finished, look_over, put_over, scene_of, status_of, used_of}
-use Rattle.virtio_blk.proofs.Completions.{completed-is, base_is_whole}
+use Rattle.virtio_blk.proofs.Completions.{completed-is, base_is_whole, not_refused}
 use Rattle.virtio_blk.proofs.Flights.{flight_in-map, flight_in-none, without-map, ids-remove, All-remove}
 use Rattle.virtio_blk.proofs.block.Block.complete.Goals as goal
 
@@ -111,4 +111,37 @@ returns c =
           ∙ ap Ok (λ i. record { transport = (sym back i).1; flights = flights i; ram = (sym back i).0; disk = disk i }),
       ap (λ d. d.next) c.self.view_is,
       c.in-Ok-write_disk.ensures.len ∙ ap (λ d. d.disk.len) c.self.view_is,
+    )
+
+pub returns-in_default-look : goal.returns-in_default-look
+returns-in_default-look c =
+    let p = c.index-all-place.result in
+    let here = ap (position (λ (p : Parsed). p.id == c.args.id)) (sym c.as_slice.ensures.value) ∙ sym c.in-Some.ensures in
+    let is : flight_in c.args.self.now.flights c.args.id ≡ Some (flight_of p) = ap (λ d. flight_in d.flights c.args.id) (sym c.self.view_is) ∙ at c.args.id c.self.inside.parsed.items c.as_slice-all.result.now c.in-Some.place p c.as_slice-all.ensures.value here c.index-all-place.is in
+    (not_refused c.args.base.now c.args.id c.args.ok c.args.self.now c.args.ram.now (flight_of p) is (sym c.if-is_refused.ensures), refl, refl)
+
+pub returns-in_default-answer : goal.returns-in_default-answer
+returns-in_default-answer c =
+    let p = c.index-all-place.result in
+    let here = ap (position (λ (p : Parsed). p.id == c.args.id)) (sym c.as_slice.ensures.value) ∙ sym c.in-Some.ensures in
+    let is : flight_in c.args.self.now.flights c.args.id ≡ Some (flight_of p) = ap (λ d. flight_in d.flights c.args.id) (sym c.self.view_is) ∙ at c.args.id c.self.inside.parsed.items c.as_slice-all.result.now c.in-Some.place p c.as_slice-all.ensures.value here c.index-all-place.is in
+    (not_refused c.args.base.now c.args.id c.args.ok c.args.self.now c.args.ram.now (flight_of p) is (sym c.if-is_refused.ensures), refl, refl)
+
+pub returns-in_default-give_back : goal.returns-in_default-give_back
+returns-in_default-give_back c =
+    let p = c.index-all-place.result in
+    let here = ap (position (λ (p : Parsed). p.id == c.args.id)) (sym c.as_slice.ensures.value) ∙ sym c.in-Some.ensures in
+    let is : flight_in c.args.self.now.flights c.args.id ≡ Some (flight_of p) = ap (λ d. flight_in d.flights c.args.id) (sym c.self.view_is) ∙ at c.args.id c.self.inside.parsed.items c.as_slice-all.result.now c.in-Some.place p c.as_slice-all.ensures.value here c.index-all-place.is in
+    (not_refused c.args.base.now c.args.id c.args.ok c.args.self.now c.args.ram.now (flight_of p) is (sym c.if-is_refused.ensures), refl, refl)
+
+pub returns-in_default-write_disk : goal.returns-in_default-write_disk
+returns-in_default-write_disk c =
+    let p = c.index-all-place.result in
+    let here = ap (position (λ (p : Parsed). p.id == c.args.id)) (sym c.as_slice.ensures.value) ∙ sym c.in-Some.ensures in
+    let is : flight_in c.args.self.now.flights c.args.id ≡ Some (flight_of p) = ap (λ d. flight_in d.flights c.args.id) (sym c.self.view_is) ∙ at c.args.id c.self.inside.parsed.items c.as_slice-all.result.now c.in-Some.place p c.as_slice-all.ensures.value here c.index-all-place.is in
+    let inside = c.self.inside in
+    let view : Disk → Drive = λ d. record { transport = inside.transport; disk = d; next = inside.next; flights = map flight_of inside.parsed.items } in (
+      not_refused c.args.base.now c.args.id c.args.ok c.args.self.now c.args.ram.now (flight_of p) is (sym c.if-is_refused.ensures),
+      ap view c.in_default-write_disk.ensures.err ∙ c.self.view_is,
+      refl,
     )
