@@ -22,3 +22,6 @@ pub use transport::{Effect, Transport};
 
 /// Want of memory.
 pub type NoMemory = AllocError;
+
+#[cfg(test)]
+mod tests;
