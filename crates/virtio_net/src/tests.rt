@@ -22,12 +22,15 @@ fn a_packet_stands_behind_its_header(rt: HostRuntime) -> Result<(), Fail> {
     let alloc = rt.alloc();
     let mut ram = Ram::new(alloc, 1)?;
     let mut net = ready(alloc)?;
+    ram.copy_in(0x8000_4000, &[0xff; 27])?;
     show(&mut ram, 0, 0x8000_4000, 26)?;
     let packet = [1, 2, 3, 4, 5, 6, 7, 8, 9, 10, 11, 12, 13, 14];
     assert_eq!(rt; net.receive(alloc, &packet, &mut ram), Ok(()));
+    assert_eq!(rt; ram.load(0x8000_4000, 4), Ok(0));
+    assert_eq!(rt; ram.load(0x8000_4004, 4), Ok(0));
     assert_eq!(rt; ram.load(0x8000_4008, 4), Ok(0x0001_0000));
     assert_eq!(rt; ram.load(0x8000_400c, 4), Ok(0x0403_0201));
-    assert_eq!(rt; ram.load(0x8000_4018, 2), Ok(0x0e0d));
+    assert_eq!(rt; ram.load(0x8000_4018, 4), Ok(0x00ff_0e0d));
     assert_eq!(rt; ram.load(RECEIVE + USED + 8, 4), Ok(26));
     assert_eq!(rt; ram.load(RECEIVE + USED + 2, 2), Ok(1));
     assert!(rt; net.irq());
@@ -42,7 +45,11 @@ fn a_chain_that_is_too_short_is_used_with_nothing(rt: HostRuntime) -> Result<(),
     show(&mut ram, 0, 0x8000_4000, 25)?;
     assert_eq!(rt; net.receive(alloc, &[7; 14], &mut ram), Ok(()));
     assert_eq!(rt; ram.load(0x8000_4008, 4), Ok(0));
+    assert_eq!(rt; ram.load(0x8000_400c, 4), Ok(0));
     assert_eq!(rt; ram.load(RECEIVE + USED + 8, 4), Ok(0));
+    assert_eq!(rt; ram.load(RECEIVE + USED + 2, 2), Ok(1));
+    show(&mut ram, 1, 0x8000_4000, 26)?;
+    net.notify(alloc, 0, &mut ram)?;
     assert_eq!(rt; ram.load(RECEIVE + USED + 2, 2), Ok(1));
     Ok(())
 }
@@ -60,8 +67,9 @@ fn the_seventeenth_packet_is_dropped(rt: HostRuntime) -> Result<(), Fail> {
     }
     net.notify(alloc, 0, &mut ram)?;
     assert_eq!(rt; ram.load(RECEIVE + USED + 2, 2), Ok(16));
-    assert_eq!(rt; ram.load(0x8000_400c, 1), Ok(0));
-    assert_eq!(rt; ram.load(0x8000_43cc, 1), Ok(15));
+    for k in 0..16u32 {
+        assert_eq!(rt; ram.load(0x8000_400c + 64 * k, 1), Ok(k));
+    }
     assert_eq!(rt; ram.load(0x8000_440a, 1), Ok(0));
     Ok(())
 }
