@@ -55,13 +55,14 @@ fn a_read_before_a_write_sees_the_base(rt: HostRuntime) -> Result<(), Fail> {
     let mut ram = Ram::new(alloc, 1)?;
     let mut block = ready(alloc);
     show_write_and_read(&mut ram)?;
+    ram.store_aligned(0x8000_6000, 4, 0x1234_5678)?;
     block.notify(alloc, &ram)?;
     assert_eq!(rt;
         finish(alloc, &mut block, 1, &[0x78; 512], &mut ram),
         Ok(())
     );
     assert_eq!(rt; finish(alloc, &mut block, 0, &[], &mut ram), Ok(()));
-    assert_eq!(rt; ram.load(0x8000_6000, 4), Ok(0x7878_7878));
+    assert_eq!(rt; ram.load_aligned(0x8000_6000, 4), Some(0x7878_7878));
     Ok(())
 }
 
