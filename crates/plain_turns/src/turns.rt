@@ -43,9 +43,9 @@ pub fn run(hart: &mut Hart, memory: &mut Memory, cache: &DecodeCache, most: u32)
     let Some(words) = cache.known() else {
         return 0;
     };
-    let mut made = 0;
-    while made < most && turn(hart, memory, &words) {
-        made += 1;
+    let mut left = most;
+    while left > 0 && turn(hart, memory, &words) {
+        left -= 1;
     }
-    made
+    most - left
 }

@@ -1,68 +1,27 @@
 //! What the last words meant, so that a loop's words are decoded once.
 ghost use Rattle.std.specs.Prelude.{◌≡◌, ◌<◌, IfSome, Some};
 ghost use Rattle.rv_decode.specs.Fields.{IsWithin, decoded};
+ghost use Rattle.rv_decode.specs.Kept.{Knows};
 
 use crate::decoder::decode;
 use crate::ins::Ins;
 use std::alloc::Global;
 use std::marker::Model;
 
-/// How many words are kept.
+/// How many instructions are kept.
 const SLOTS: usize = 16384;
 
-/// A word beside its instruction.
+/// A word that is an instruction, beside it.
 #[derive(Clone, Copy)]
 struct Known {
     word: u32,
-    ins: Option<Ins>,
+    ins: Ins,
+    ghost knows: { Knows word ins },
 }
 
-impl Model for Known {
-    ghost use Rattle.std.specs.Prelude.{ℕ};
-    ghost use Rattle.rv_decode.specs.Fields.{decoded};
-    ghost use Rattle.rv_decode.specs.Kept.{Knows};
-
-    ghost Value = { ℕ };
-
-    ghost view = { λ k. k.word };
-
-    ghost inverse = { λ w. record { word = w; ins = decoded w } };
-
-    ghost invariant = { λ k. Knows k.word k.ins };
-}
-
-impl Known {
-    /// Decodes a word.
-    fn of(word: u32) -> Known
-        ensures { result ≡ word }
-    {
-        Known {
-            word,
-            ins: decode(word),
-        }
-    }
-
-    /// The word.
-    #[inline(always)]
-    fn word(&self) -> u32
-        ensures { result ≡ self.now }
-    {
-        self.word
-    }
-
-    /// The instruction that it is.
-    #[inline(always)]
-    fn ins(&self) -> Option<Ins>
-        ensures instruction { result ≡ decoded self.now }
-        ensures registers { IfSome result IsWithin }
-    {
-        self.ins
-    }
-}
-
-/// The words that were decoded last, one for each address modulo 65,536. It answers as `decode`
-/// does, and only faster, so contracts see nothing of it. It takes no memory before its first word,
-/// and where memory is refused it keeps none.
+/// The instructions that were decoded last, one for each address modulo 65,536. It answers as
+/// `decode` does, and only faster, so contracts see nothing of it. It takes no memory before its
+/// first instruction, and where memory is refused it keeps none.
 #[derive(Drop)]
 pub struct DecodeCache {
     slots: Vec<Known>,
@@ -96,27 +55,28 @@ impl DecodeCache {
         ensures registers { IfSome result IsWithin }
     {
         if let Some(known) = self.slots.get(slot_of(at))
-            && known.word() == word
+            && known.word == word
         {
-            return known.ins();
+            return Some(known.ins);
         }
         self.learn(at, word)
     }
 
-    /// Decodes a word and keeps it.
+    /// Decodes a word and keeps it where it is an instruction.
     #[inline(never)]
     fn learn(&mut self, at: u32, word: u32) -> Option<Ins>
         ensures instruction { result ≡ decoded word }
         ensures registers { IfSome result IsWithin }
     {
-        let known = Known::of(word);
-        if self.slots.is_empty() && self.slots.resize(SLOTS, Known::of(0)).is_err() {
-            return known.ins();
+        let ins = decode(word)?;
+        let known = Known { word, ins };
+        if self.slots.is_empty() && self.slots.resize(SLOTS, known).is_err() {
+            return Some(ins);
         }
         if let Some(slot) = self.slots.get_mut(slot_of(at)) {
             *slot = known;
         }
-        known.ins()
+        Some(ins)
     }
 
     /// What it knows, if it knows anything.
@@ -154,10 +114,10 @@ impl<'a> KnownWords<'a> {
         ensures registers { IfSome result IsWithin }
     {
         let known = &self.slots[slot_of(at)];
-        if known.word() != word {
+        if known.word != word {
             return None;
         }
-        known.ins()
+        Some(known.ins)
     }
 }
 

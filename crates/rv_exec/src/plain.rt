@@ -198,28 +198,27 @@ pub fn execute_plain<B: Bus>(h: &mut Hart, bus: &mut B, ins: Ins, _word: u32) ->
     let a = h.x.get(ins.rs1);
     let b = h.x.get(ins.rs2);
     let imm = ins.imm.cast_unsigned();
-    let at = a.wrapping_add(imm);
     let target = h.pc.wrapping_add(imm);
     match ins.op {
         Op::Lui => give(h, ins.rd, imm),
         Op::Auipc => give(h, ins.rd, target),
         Op::Jal => link(h, ins.rd, target),
-        Op::Jalr => link(h, ins.rd, without_bit_zero(at)),
+        Op::Jalr => link(h, ins.rd, without_bit_zero(a.wrapping_add(imm))),
         Op::Beq => go(h, a == b, target),
         Op::Bne => go(h, a != b, target),
         Op::Blt => go(h, is_less_signed(a, b), target),
         Op::Bge => go(h, !is_less_signed(a, b), target),
         Op::Bltu => go(h, a < b, target),
         Op::Bgeu => go(h, a >= b, target),
-        Op::Lb => read(h, bus, ins.rd, at, 1, Extend::Byte),
-        Op::Lh => read(h, bus, ins.rd, at, 2, Extend::Half),
-        Op::Lw => read(h, bus, ins.rd, at, 4, Extend::Zeros),
-        Op::Lbu => read(h, bus, ins.rd, at, 1, Extend::Zeros),
-        Op::Lhu => read(h, bus, ins.rd, at, 2, Extend::Zeros),
-        Op::Sb => write(h, bus, at, 1, b % 256),
-        Op::Sh => write(h, bus, at, 2, b % 65536),
-        Op::Sw => write(h, bus, at, 4, b),
-        Op::Addi => give(h, ins.rd, at),
+        Op::Lb => read(h, bus, ins.rd, a.wrapping_add(imm), 1, Extend::Byte),
+        Op::Lh => read(h, bus, ins.rd, a.wrapping_add(imm), 2, Extend::Half),
+        Op::Lw => read(h, bus, ins.rd, a.wrapping_add(imm), 4, Extend::Zeros),
+        Op::Lbu => read(h, bus, ins.rd, a.wrapping_add(imm), 1, Extend::Zeros),
+        Op::Lhu => read(h, bus, ins.rd, a.wrapping_add(imm), 2, Extend::Zeros),
+        Op::Sb => write(h, bus, a.wrapping_add(imm), 1, b % 256),
+        Op::Sh => write(h, bus, a.wrapping_add(imm), 2, b % 65536),
+        Op::Sw => write(h, bus, a.wrapping_add(imm), 4, b),
+        Op::Addi => give(h, ins.rd, a.wrapping_add(imm)),
         Op::Slti => give(h, ins.rd, u32::from(is_less_signed(a, imm))),
         Op::Sltiu => give(h, ins.rd, u32::from(a < imm)),
         Op::Xori => give(h, ins.rd, a ^ imm),

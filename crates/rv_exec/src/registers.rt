@@ -39,13 +39,14 @@ impl Regs {
         self.x[n as usize]
     }
 
-    /// Gives register `n` a value, where it isn't register 0.
+    /// Gives register `n` a value, where it isn't register 0. A second write costs less than a
+    /// branch.
+    #[tactic(auto, using(crate::proofs::Zero::zeroed))]
     pub fn set(&mut self, n: u8, value: u32)
         requires { n < 32 }
         ensures { self.new ≡ with_register self.old n value }
     {
-        if n != 0 {
-            self.x[n as usize] = value;
-        }
+        self.x[n as usize] = value;
+        self.x[0] = 0;
     }
 }
