@@ -10,6 +10,7 @@ pub mod Unrefused
 pub mod Counting
 pub mod ClockLaws
 pub mod InHand
+pub mod RegisterTexts
 pub mod Plain
 pub mod Sprints
 pub mod Quiet

@@ -7,6 +7,7 @@ pub mod Accept
 pub mod Runs
 pub mod Reset
 pub mod Taken
+pub mod Show
 pub mod Answers
 pub mod Laws
 pub mod Sprint

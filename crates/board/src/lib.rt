@@ -14,6 +14,7 @@ mod firmware;
 pub mod laws;
 mod machine;
 mod running;
+mod showing;
 mod sprinting;
 mod steps;
 mod turning;

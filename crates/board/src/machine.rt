@@ -1,6 +1,6 @@
 //! The machine: its hart, its devices, and what it counts and waits for.
 
-ghost use Rattle.std.specs.Prelude.{◌≡◌, length, IfOk};
+ghost use Rattle.std.specs.Prelude.{◌≡◌, ◌≤◌, ◌^◌, length, IfOk};
 ghost use Rattle.elf_load.specs.Load.{LiesInRam};
 ghost use Rattle.board.specs.Reset.{reset as reset_of, IsConfig};
 ghost use Rattle.board.specs.Close.{deadline as deadline_of};
@@ -114,7 +114,8 @@ impl Machine {
 
     /// How many turns were made.
     pub fn count(&self) -> u64
-        ensures { result ≡ self.now.devices.time.count }
+        ensures count { result ≡ self.now.devices.time.count }
+        ensures few { result ≤ 2 ^ 40 }
     {
         self.devices.time.count()
     }

@@ -83,6 +83,13 @@ impl Console {
         self.uart.untaken()
     }
 
+    /// How many bytes of output there were in all.
+    pub fn total_out(&self) -> u64
+        ensures { result ≡ self.now.total_out }
+    {
+        self.uart.total_out()
+    }
+
     /// A console in the same state. Later changes of one don't show in the other.
     pub fn share(&self) -> Result<Console, NoMemory>
         ensures { IfOk result (λ c. c ≡ self.now) }

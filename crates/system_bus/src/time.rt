@@ -45,6 +45,13 @@ impl Time {
         self.count
     }
 
+    /// Nanoseconds that idle windows skipped.
+    pub fn warp(&self) -> u64
+        ensures { result ≡ self.now.warp }
+    {
+        self.warp
+    }
+
     /// Nanoseconds since reset.
     pub fn nanoseconds(&self) -> u64
         ensures value { result ≡ nanoseconds self.now }
