@@ -8,6 +8,7 @@ use Rattle.clint_rtc.specs.Rtc.{nothing_latched}
 use Rattle.plic_gate.specs.Gateway as plic
 use Rattle.uart16550.specs.Line as uart
 use Rattle.elf_load.specs.declared.pieces.Loaded.{Loaded}
+use Rattle.event_log.specs.declared.header.Header.{Header}
 use Rattle.board.specs.Firmware.{filled}
 use Rattle.board.specs.State.{State}
 use Rattle.board.specs.declared.config.Config.{Config}
@@ -42,6 +43,20 @@ reset config firmware = record {
     budget = config.budget;
   };
 }
+
+-- what a log's header says of the machine
+abbrev pub config_of : Header → Config
+config_of h = record {
+  shift = h.shift;
+  ram_mib = h.ram_mib;
+  slice = h.slice;
+  budget = h.budget;
+  disk_len = h.disk_len;
+}
+
+-- the state from which the run of a header and a firmware starts
+abbrev pub start_of : Header → Loaded → State
+start_of h firmware = reset (config_of h) firmware
 
 -- what a run can be configured with
 pub record IsConfig (config : Config) : Type 0 where
