@@ -66,7 +66,7 @@ impl Runner {
     }
 
     /// The event at a place of the log, where the run goes on, and the place after it.
-    fn follow_one<L: Ledger>(
+    pub fn follow_one<L: Ledger>(
         &mut self,
         alloc: Global,
         bytes: &[u8],
