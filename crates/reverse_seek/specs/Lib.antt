@@ -1,0 +1,6 @@
+pub mod Stride
+pub mod Script
+pub mod Mark
+pub mod Moves
+pub mod Snapshots
+pub mod Timeline
