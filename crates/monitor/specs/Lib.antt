@@ -1,0 +1,9 @@
+pub mod Words
+pub mod Numbers
+pub mod Parse
+pub mod Texts
+pub mod Moves
+pub mod Dumps
+pub mod Session
+pub mod Serving
+pub mod Debugging
