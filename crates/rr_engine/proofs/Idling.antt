@@ -18,7 +18,7 @@ use Rattle.board.specs.declared.due.Due.TheVariants as due_is
 use Rattle.board.specs.State.{State}
 use Rattle.board.specs.Close.{wakes, deadline, rests, close_window, close}
 use Rattle.board.specs.Due.{is_idle_window, due, due_closed, has_in_flight, interrupt_of, needs_clock}
-use Rattle.board.specs.Accept.{accept, taken, takes, takes_interrupt, takes_input, is_open, used, received, with_used_window, in_window, ended, with_levels}
+use Rattle.board.specs.Accept.{accept, taken, takes, takes_interrupt, takes_input, is_open, used, received, delivered, with_used_window, in_window, ended, with_levels}
 use Rattle.system_bus.specs.Lines.{levels}
 use Rattle.board.specs.Turn.{attempt, settle, turn, turn_closed}
 use Rattle.board.specs.Runs.{is_run, after, step}
@@ -231,6 +231,19 @@ end-ended g h reason code s =
       | inr l ↦ l.1
     ]
 
+-- a checkpoint that isn't an idle one opens no idle window
+pub checkpoint-idle : (g h : State) (idle : Bool) → step g (event.Checkpoint idle) ≡ Some h
+    → h.control.window ≡ window.Idle false → idle ≡ true
+checkpoint-idle g h true s w = refl
+checkpoint-idle g h false s w =
+    elim (step-leaves (event.Checkpoint false) g h tt s) [
+      | inl l ↦ absurd (not-slice (sym l.0 ∙ w))
+      | inr l ↦ absurd (not-slice (sym l.0 ∙ w))
+    ]
+  where
+    not-slice : window.Slice false ≡ window.Idle false → ⊥
+    not-slice e = cc
+
 -- ---- turns
 
 settle-window : (g : State) (d : Done) (h : Hart) (b : Devices) → (settle g d h b).control.window ≡ g.control.window
@@ -280,12 +293,14 @@ after-shut zero g some d = absurd (omega (arith, some))
 after-shut (suc n) g some d =
     rw (ap is_run d) (λ w. turn-shut g d (after-idle n (turn g) w))
 
--- ---- a piece of the input
+-- ---- an input
 
--- a piece marks the window, and ends nothing; it may wake an idle hart
+-- an input marks the window, which stays open, and gives no console bytes; it may wake an idle hart
 pub record Typed (g h : State) : Type 0 where
   pub used : h.control.window ≡ window.Idle false → ⊥
   pub going : h.control.ended ≡ None
+  pub opens : takes_input h.control ≡ true
+  pub silent : h.devices.uart.out ≡ g.devices.uart.out
   pub work : work h ≤ work g + 2
 
 used-window : (w : Window) → is_open w ≡ true → used w ≡ window.Idle false → ⊥
@@ -293,9 +308,18 @@ used-window window.Shut o e = absurd cc
 used-window (window.Slice u) o e = cc
 used-window (window.Idle u) o e = cc
 
+used-open : (w : Window) → is_open w ≡ true → is_open (used w) ≡ true
+used-open window.Shut o = o
+used-open (window.Slice u) o = refl
+used-open (window.Idle u) o = refl
+
 pub open-parts : (o : Option Ending) (w : Window) → (is_none o && is_open w) ≡ true → (o ≡ None) × (is_open w ≡ true)
 open-parts None w e = (refl, e)
 open-parts (Some ending) w e = absurd cc
+
+parts-open : (o : Option Ending) (w : Window) → o ≡ None → is_open w ≡ true → (is_none o && is_open w) ≡ true
+parts-open None w n e = e
+parts-open (Some ending) w n e = absurd cc
 
 typed-to : (b : Bool) (k h : State) → b ≡ true → with_levels (if b then some_state k else None) ≡ Some h
     → record k { devices = levels k.devices } ≡ h
@@ -310,6 +334,21 @@ typed-marks g bytes opens k same =
     subst (λ (z : State). Typed g (record z { devices = levels z.devices })) (sym same) (record {
       used = λ e. used-window g.control.window parts.1 e;
       going = parts.0;
+      opens = parts-open g.control.ended (used g.control.window) parts.0 (used-open g.control.window parts.1);
+      silent = refl;
+      work = omega (arith, bit-most (g.control.idle && is_restless (used g.control.window)));
+    })
+
+packet-marks : (g : State) (packet : List ℕ) → takes_input g.control ≡ true
+    → (k : State) → k ≡ with_used_window (delivered g packet) → Typed g (record k { devices = levels k.devices })
+unfolding work levels
+packet-marks g packet opens k same =
+    let parts = open-parts g.control.ended g.control.window opens in
+    subst (λ (z : State). Typed g (record z { devices = levels z.devices })) (sym same) (record {
+      used = λ e. used-window g.control.window parts.1 e;
+      going = parts.0;
+      opens = parts-open g.control.ended (used g.control.window) parts.0 (used-open g.control.window parts.1);
+      silent = refl;
       work = omega (arith, bit-most (g.control.idle && is_restless (used g.control.window)));
     })
 
@@ -319,3 +358,10 @@ unfolding step accept taken
 types g h bytes opens s =
     let k = with_used_window (received g bytes) in
     subst (Typed g) (typed-to (takes_input g.control) k h opens s) (typed-marks g bytes opens k refl)
+
+pub delivers : (g h : State) (packet : List ℕ) → takes_input g.control ≡ true → step g (event.Net packet) ≡ Some h
+    → Typed g h
+unfolding step accept taken
+delivers g h packet opens s =
+    let k = with_used_window (delivered g packet) in
+    subst (Typed g) (typed-to (takes_input g.control) k h opens s) (packet-marks g packet opens k refl)

@@ -17,9 +17,11 @@ pub use Rattle.log_order.proofs.Following.{some_state, some_is, then-more}
 use Rattle.rr_engine.specs.declared.parts.Break.{Break}
 use Rattle.rr_engine.specs.declared.parts.Break.TheVariants.{ConsoleRead, ConsoleWrite, LogWrite, NoMemory}
 use Rattle.rr_engine.specs.Stand.{Stand}
-use Rattle.rr_engine.specs.Input.{Extent, Entire, Part, Debt, Paid, unread, Heard, Read}
-use Rattle.rr_engine.specs.Recording.{clock_value, clock_values, Took, Appended, Logged, Gave, Counted, Recorded, IsLogged, Broke, Goes}
-use Rattle.rr_engine.proofs.Hearing.{heard-then, heard-none, read-then, read-none}
+use Rattle.rr_engine.specs.Input.{Extent, Entire, Part}
+use Rattle.rr_engine.specs.Feed.{Feed, Unfailed}
+use Rattle.rr_engine.specs.Windows.{Remainder, nothing_left, Hears}
+use Rattle.rr_engine.specs.Recording.{clock_value, clock_values, Took, Appended, Logged, Gave, Counted, Steady, Recorded, IsLogged, Broke, Goes}
+use Rattle.rr_engine.proofs.Feeding.{hears-then, hears-none, unfailed-same, unfailed-then, failed-after}
 
 -- ---- runs
 
@@ -113,8 +115,16 @@ appended-none w works = record { written = []; taken = Takes-refl w.taken; whole
 pub gave-none : (w : Extent) (a : Option (List ℕ)) → Gave w a a []
 gave-none w a = record { more = []; gave = Takes-refl a; all = λ e. refl }
 
-pub recorded-none : (p : Stand) → p.log.unsent.failed ≡ false → Recorded Entire Paid p p
-recorded-none p works = record {
+pub steady-weak : (w : Extent) (a b : Feed) → Unfailed a b → Steady w a b
+steady-weak Entire a b p = p
+steady-weak Part a b p = tt
+
+steady-then : (w : Extent) (a b c : Feed) → Steady Entire a b → Steady w b c → Steady w a c
+steady-then Entire a b c p q = unfailed-then a b c p q
+steady-then Part a b c p q = tt
+
+pub recorded-none : (d : Remainder) (p : Stand) → p.log.unsent.failed ≡ false → Recorded Entire d d p p
+recorded-none d p works = record {
   events = [];
   bytes = [];
   last = p.machine;
@@ -125,54 +135,22 @@ recorded-none p works = record {
   log_faults = refl;
   console = Takes-refl p.console;
   console_faults = refl;
-  read = read-none Entire p.input.left;
-  heard = heard-none Entire Paid (unread p.input) (λ whole. refl);
-  input_faults = refl;
+  left = d;
+  heard = hears-none d p.feed;
+  leaves = λ whole. refl;
+  steady = unfailed-same p.feed;
   clock = gave-none Entire p.gave;
 }
 
--- a part of a recording after which another may come; a window may owe its piece before and after
-pub record Begun (debt debt' : Debt) (p q : Stand) : Type 0 where
-  pub events : List Event
-  pub bytes : List ℕ
-  pub are : AllByRecursion IsEvent events
-  pub runs : run p.machine events ≡ Some (with_out bytes q.machine)
-  pub log : Appended p.log q.log (texts events)
-  pub log_faults : q.log.faults ≡ p.log.faults
-  pub console : Takes p.console q.console bytes
-  pub console_faults : q.console_faults ≡ p.console_faults
-  pub read : Read Entire p.input.left q.input.left events
-  pub heard : (w : Extent) (es : List Event) (c : Option (List ℕ))
-      → Heard w debt' (unread q.input) es c
-      → Heard w debt (unread p.input) (events ++ es) c
-  pub input_faults : q.input.faults ≡ p.input.faults
-  pub clock : Gave Entire p.gave q.gave (clock_values events)
-
--- a whole recording is one
-pub begun : (o : Debt) (p q : Stand) → Recorded Entire o p q → Begun o Paid p q
-begun o p q a = record {
-  events = a.events;
-  bytes = a.bytes;
-  are = a.are;
-  runs = a.runs ∙ ap (λ z. some_state (with_out a.bytes z)) (a.stands refl);
-  log = a.log;
-  log_faults = a.log_faults;
-  console = a.console;
-  console_faults = a.console_faults;
-  read = a.read;
-  heard = λ w es c h. heard-then w o (unread p.input) (unread q.input) c a.events es a.heard h;
-  input_faults = a.input_faults;
-  clock = a.clock;
-}
-
-pub begun-then : (w : Extent) (o o' : Debt) (p q r : Stand) → Begun o o' p q → Recorded w o' q r
-    → Recorded w o p r
-begun-then w o o' p q r a b = record {
+pub recorded-then : (w : Extent) (d d' d'' : Remainder) (p q r : Stand) → Recorded Entire d d' p q
+    → Recorded w d' d'' q r → Recorded w d d'' p r
+recorded-then w d d' d'' p q r a b = record {
   events = a.events ++ b.events;
   bytes = a.bytes ++ b.bytes;
   last = b.last;
   are = all-append a.events b.events a.are b.are;
-  runs = run-append a.events b.events p.machine (with_out a.bytes q.machine) (Some (with_out (a.bytes ++ b.bytes) b.last)) a.runs
+  runs = run-append a.events b.events p.machine (with_out a.bytes q.machine) (Some (with_out (a.bytes ++ b.bytes) b.last))
+      (a.runs ∙ ap (λ z. some_state (with_out a.bytes z)) (a.stands refl))
       (run-behind a.bytes b.bytes b.events q.machine b.last b.runs);
   stands = b.stands;
   log = subst (Logged w p.log r.log) (sym (texts-append a.events b.events))
@@ -180,26 +158,25 @@ begun-then w o o' p q r a b = record {
   log_faults = counted-then w p.log.faults q.log.faults r.log.faults a.log_faults b.log_faults;
   console = took-then w p.console q.console r.console a.bytes b.bytes a.console b.console;
   console_faults = counted-then w p.console_faults q.console_faults r.console_faults a.console_faults b.console_faults;
-  read = read-then w p.input.left q.input.left r.input.left a.events b.events a.read b.read;
-  heard = a.heard w b.events (unread r.input) b.heard;
-  input_faults = counted-then w p.input.faults q.input.faults r.input.faults a.input_faults b.input_faults;
+  left = b.left;
+  heard = hears-then d p.feed a.events d' q.feed b.events b.left r.feed
+      (subst (λ (z : Remainder). Hears d p.feed a.events z q.feed) (a.leaves refl) a.heard) b.heard;
+  leaves = b.leaves;
+  steady = steady-then w p.feed q.feed r.feed a.steady b.steady;
   clock = subst (Gave w p.gave r.gave) (sym (values-append a.events b.events))
       (gave-then w p.gave q.gave r.gave (clock_values a.events) (clock_values b.events) a.clock b.clock);
 }
 
-pub recorded-then : (w : Extent) (o : Debt) (p q r : Stand) → Recorded Entire o p q
-    → Recorded w Paid q r → Recorded w o p r
-recorded-then w o p q r a b = begun-then w o Paid p q r (begun o p q a) b
-
 -- what was recorded, and then all of the rest
-logged-after : (shown : Extent) (o o' : Debt) (p q r : Stand) → Begun o o' p q
-    → IsLogged shown o' q r → IsLogged shown o p r
-logged-after shown o o' p q r a b = record {
+pub logged-after : (shown : Extent) (d d' : Remainder) (p q r : Stand) → Recorded Entire d d' p q
+    → IsLogged shown d' q r → IsLogged shown d p r
+logged-after shown d d' p q r a b = record {
   events = a.events ++ b.events;
   bytes = a.bytes ++ b.bytes;
   last = b.last;
   are = all-append a.events b.events a.are b.are;
-  runs = run-append a.events b.events p.machine (with_out a.bytes q.machine) (Some (with_out (a.bytes ++ b.bytes) b.last)) a.runs
+  runs = run-append a.events b.events p.machine (with_out a.bytes q.machine) (Some (with_out (a.bytes ++ b.bytes) b.last))
+      (a.runs ∙ ap (λ z. some_state (with_out a.bytes z)) (a.stands refl))
       (run-behind a.bytes b.bytes b.events q.machine b.last b.runs);
   stopped = b.stopped;
   log = subst (λ (z : List ℕ). Takes p.log.taken r.log.taken (p.log.unsent.held ++ z))
@@ -211,43 +188,62 @@ logged-after shown o o' p q r a b = record {
       (q.log.unsent.held ++ texts b.events) a.log.taken b.log));
   console = took-then shown p.console q.console r.console a.bytes b.bytes a.console b.console;
   all = b.all;
-  read = read-then Part p.input.left q.input.left r.input.left a.events b.events a.read b.read;
-  heard = a.heard Part b.events (unread r.input) b.heard;
+  left = b.left;
+  heard = hears-then d p.feed a.events d' q.feed b.events b.left r.feed
+      (subst (λ (z : Remainder). Hears d p.feed a.events z q.feed) (a.leaves refl) a.heard) b.heard;
   clock = subst (Gave Part p.gave r.gave) (sym (values-append a.events b.events))
       (gave-then Part p.gave q.gave r.gave (clock_values a.events) (clock_values b.events)
       a.clock b.clock);
 }
 
-broke-then : (o o' : Debt) (p q r : Stand) (b : Break) → Begun o o' p q → Broke o' q r b
-    → Broke o p r b
-broke-then o o' p q r ConsoleRead a h =
-    let P : ℕ → Type 0 = λ n. Rose n r.input.faults in
+broke-then : (d d' : Remainder) (p q r : Stand) (b : Break) → Recorded Entire d d' p q → Broke d' q r b
+    → Broke d p r b
+broke-then d d' p q r ConsoleRead a h =
     let Q : ℕ → Type 0 = λ n. Stood n r.log.faults in (
-      subst P a.input_faults h.0,
-      λ stood. logged-after Entire o o' p q r a (h.1 (subst Q (sym a.log_faults) stood)),
+      failed-after p.feed q.feed r.feed a.steady h.0,
+      λ stood. logged-after Entire d d' p q r a (h.1 (subst Q (sym a.log_faults) stood)),
       h.2 ∙ a.console_faults,
     )
-broke-then o o' p q r ConsoleWrite a h =
+broke-then d d' p q r ConsoleWrite a h =
     let P : ℕ → Type 0 = λ n. Rose n r.console_faults in
     let Q : ℕ → Type 0 = λ n. Stood n r.log.faults in (
       subst P a.console_faults h.0,
-      λ stood. logged-after Part o o' p q r a (h.1 (subst Q (sym a.log_faults) stood)),
-      h.2 ∙ a.input_faults,
+      λ stood. logged-after Part d d' p q r a (h.1 (subst Q (sym a.log_faults) stood)),
+      unfailed-then p.feed q.feed r.feed a.steady h.2,
     )
-broke-then o o' p q r LogWrite a h =
+broke-then d d' p q r LogWrite a h =
     let P : ℕ → Type 0 = λ n. Rose n r.log.faults in (
       subst P a.log_faults h.0,
       h.1 ∙ a.console_faults,
-      h.2 ∙ a.input_faults,
+      unfailed-then p.feed q.feed r.feed a.steady h.2,
     )
-broke-then o o' p q r NoMemory a h = tt
+broke-then d d' p q r NoMemory a h = tt
 
-pub begun-goes : (o o' : Debt) (p q r : Stand) (x : Result (Unit {0}) Break) → Begun o o' p q
-    → Goes o' q r x → Goes o p r x
-begun-goes o o' p q r (Ok done) a h = begun-then Entire o o' p q r a h
-begun-goes o o' p q r (Err b) a h =
-    (begun-then Part o o' p q r a h.0, broke-then o o' p q r b a h.1)
+pub goes-then : (d d' d'' : Remainder) (p q r : Stand) (x : Result (Unit {0}) Break) → Recorded Entire d d' p q
+    → Goes d' d'' q r x → Goes d d'' p r x
+goes-then d d' d'' p q r (Ok done) a h = recorded-then Entire d d' d'' p q r a h
+goes-then d d' d'' p q r (Err b) a h =
+    (recorded-then Part d d' d'' p q r a h.0, broke-then d d' p q r b a h.1)
 
-pub goes-then : (o : Debt) (p q r : Stand) (x : Result (Unit {0}) Break) → Recorded Entire o p q
-    → Goes Paid q r x → Goes o p r x
-goes-then o p q r x a h = begun-goes o Paid p q r x (begun o p q a) h
+-- where it broke off, the debt after it isn't told
+pub part-to : (d d' d'' : Remainder) (p q : Stand) → Recorded Part d d' p q → Recorded Part d d'' p q
+part-to d d' d'' p q a = record {
+  events = a.events;
+  bytes = a.bytes;
+  last = a.last;
+  are = a.are;
+  runs = a.runs;
+  stands = a.stands;
+  log = a.log;
+  log_faults = a.log_faults;
+  console = a.console;
+  console_faults = a.console_faults;
+  left = a.left;
+  heard = a.heard;
+  leaves = λ whole. absurd cc;
+  steady = a.steady;
+  clock = a.clock;
+}
+
+pub broken-to : (d d' d'' : Remainder) (p q : Stand) (b : Break) → Goes d d' p q (Err b) → Goes d d'' p q (Err b)
+broken-to d d' d'' p q b h = (part-to d d' d'' p q h.0, h.1)

@@ -1,9 +1,10 @@
 pub mod Noting
 pub mod Hearing
+pub mod Feeding
 pub mod Joining
 pub mod Entering
 pub mod Stopping
-pub mod Deafening
+pub mod Receiving
 pub mod Owing
 pub mod Falling
 pub mod Running
@@ -11,6 +12,8 @@ pub mod Idling
 pub mod Endings
 pub mod Silence
 pub mod Rounding
+pub mod Taking
+pub mod Sourcing
 pub mod Wholes
 pub mod Knowing
 pub mod Limits

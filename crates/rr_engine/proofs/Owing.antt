@@ -13,7 +13,7 @@ use Rattle.uart16550.specs.Line.{Line}
 use Rattle.system_bus.specs.Lines.{levels}
 use Rattle.board.specs.Close.{close}
 use Rattle.board.specs.Due.{due, due_by, due_closed, has_in_flight, interrupt_of, needs_clock}
-use Rattle.board.specs.Accept.{accept, taken, takes, takes_interrupt, takes_input, received, with_used_window, ended, with_levels}
+use Rattle.board.specs.Accept.{accept, taken, takes, takes_interrupt, takes_input, received, delivered, with_used_window, ended, with_levels}
 use Rattle.board.specs.Runs.{step}
 use Rattle.board.specs.Answers.{IsDue}
 use Rattle.board.proofs.Counting.{close-keeps}
@@ -114,6 +114,13 @@ pub owes_piece : (g : State) (bytes : List ℕ) → takes_input g.control ≡ tr
 unfolding step taken
 owes_piece g bytes window is =
     let a = owes g (with_used_window (received g bytes)) (event.CharRead bytes) (rw window refl) refl in
+    record { spelled = is; after = a.0; steps = a.1 }
+
+pub owes_packet : (g : State) (packet : List ℕ) → takes_input g.control ≡ true → IsEvent (event.Net packet)
+    → IsOwed g (event.Net packet)
+unfolding step taken
+owes_packet g packet window is =
+    let a = owes g (with_used_window (delivered g packet)) (event.Net packet) (rw window refl) refl in
     record { spelled = is; after = a.0; steps = a.1 }
 
 window-ends : (g k : State) (b : Bool) → (if b then some_state (ended g 3 0) else None) ≡ Some k

@@ -1,5 +1,5 @@
 -- A recording that is stopped.
-use Rattle.std.proofs.Common.{◌≡◌, ◌≢◌, ℕ, false, arith, List, [], ◌∷◌, ◌++◌, refl, sym, ap, ◌∙◌, subst, append-nil, inl, inr}
+use Rattle.std.proofs.Common.{◌≡◌, ◌≢◌, ℕ, true, false, arith, List, [], ◌∷◌, ◌++◌, refl, sym, ap, ◌∙◌, subst, append-nil, inl, inr}
 use Rattle.std.specs.Prelude.{Some, None, Result, Ok, Err}
 use Rattle.std.specs.declared.option.Option.{Option}
 use Rattle.outside.specs.Causes.{Rose, Stood}
@@ -16,13 +16,14 @@ use Rattle.board.proofs.TakenLaws.{due-with}
 use Rattle.board.specs.Taken.{with_out, without_out}
 use Rattle.rr_engine.specs.declared.parts.Break.{Break}
 use Rattle.rr_engine.specs.declared.parts.Break.TheVariants.{ConsoleRead, ConsoleWrite, LogWrite, NoMemory}
-use Rattle.io_workers.specs.Intake.{Intake}
 use Rattle.rr_engine.specs.Stand.{Stand}
-use Rattle.rr_engine.specs.Input.{Extent, Entire, Part, Debt, unread, Heard, Read}
+use Rattle.rr_engine.specs.Input.{Extent, Entire, Part}
+use Rattle.rr_engine.specs.Feed.{Feed, Unfailed}
+use Rattle.rr_engine.specs.Windows.{Remainder, Left, nothing_left, Hears}
 use Rattle.rr_engine.specs.Recording.{clock_value, clock_values, Gave, Recorded, Goes, Notes, Shows, Flushed, Stopped, IsStopped, IsLogged, Stops, Enters, Sent, Rests, or_memory}
-use Rattle.rr_engine.proofs.Hearing.{heard-none, read-none}
-use Rattle.rr_engine.proofs.Joining.{some_state, run-none, run-one, run-behind, appended-none, gave-none, Begun}
-use Rattle.rr_engine.proofs.Entering.{rest-of, LeavesInput, leaves-read}
+use Rattle.rr_engine.proofs.Feeding.{hears-none, unfailed-same, same-unfailed}
+use Rattle.rr_engine.proofs.Joining.{some_state, run-none, run-one, run-behind, appended-none, gave-none}
+use Rattle.rr_engine.proofs.Entering.{rest-of}
 use Rattle.rr_engine.proofs.Idling.{wakeless}
 
 -- console bytes that were taken stand before
@@ -31,30 +32,33 @@ with-taken g =
     ap (λ z. record g { devices = record g.devices { uart = record g.devices.uart { out = z } } }) (append-nil g.devices.uart.out)
 
 -- the console got its bytes
-shown-to : (o : Debt) (p : Stand) (console : Option (List ℕ)) → p.log.unsent.failed ≡ false
+shown-to : (o : Remainder) (p : Stand) (console : Option (List ℕ)) → p.log.unsent.failed ≡ false
     → Takes p.console console p.machine.devices.uart.out
-    → Begun o o p (record p { machine = without_out p.machine; console = console })
+    → Recorded Entire o o p (record p { machine = without_out p.machine; console = console })
 shown-to o p console works t = record {
   events = [];
   bytes = p.machine.devices.uart.out;
+  last = without_out p.machine;
   are = tt;
   runs = run-none p.machine ∙ ap (λ z. some_state z) (sym (with-taken p.machine));
+  stands = λ same. refl;
   log = appended-none p.log works;
   log_faults = refl;
   console = t;
   console_faults = refl;
-  read = read-none Entire p.input.left;
-  heard = λ w es c h. h;
-  input_faults = refl;
+  left = o;
+  heard = hears-none o p.feed;
+  leaves = λ same. refl;
+  steady = unfailed-same p.feed;
   clock = gave-none Entire p.gave;
 }
 
-pub shown : (o : Debt) (p q : Stand) → p.log.unsent.failed ≡ false → Shows p q (Ok tt)
-    → Begun o o p q
-shown o p q works s = subst (Begun o o p) (sym s.1) (shown-to o p q.console works s.0)
+pub shown : (o : Remainder) (p q : Stand) → p.log.unsent.failed ≡ false → Shows p q (Ok tt)
+    → Recorded Entire o o p q
+shown o p q works s = subst (Recorded Entire o o p) (sym s.1) (shown-to o p q.console works s.0)
 
 -- what was held of the log was written, and nothing else came
-pub flushed-stopped : (o : Debt) (p q : Stand) → Flushed p q → Stopped o p q
+pub flushed-stopped : (o : Remainder) (p q : Stand) → Flushed p q → Stopped o p q
 flushed-stopped o p q f = record {
   recorded = record {
     events = [];
@@ -67,24 +71,23 @@ flushed-stopped o p q f = record {
     log_faults = tt;
     console = subst (λ (z : Stand). TakesFront p.console z.console []) (sym f.rest) (TakesFront-none p.console []);
     console_faults = tt;
-    read = subst (λ (z : Stand). Read Part p.input.left z.input.left []) (sym f.rest)
-        (read-none Part p.input.left);
-    heard = subst (λ (z : Stand). Heard Part o (unread p.input) [] (unread z.input)) (sym f.rest)
-        (heard-none Part o (unread p.input) (λ same. absurd cc));
-    input_faults = tt;
+    left = o;
+    heard = subst (λ (z : Stand). Hears o p.feed [] o z.feed) (sym f.rest) (hears-none o p.feed);
+    leaves = λ same. absurd cc;
+    steady = tt;
     clock = subst (λ (z : Stand). Gave Part p.gave z.gave []) (sym f.rest) (gave-none Part p.gave);
   };
   silent = refl;
   console = ap (λ z. z.console) f.rest;
   console_faults = ap (λ z. z.console_faults) f.rest;
-  input = ap (λ z. z.input) f.rest;
+  feed = ap (λ z. z.feed) f.rest;
 }
 
 -- the console's sink failed, and the recording was stopped
-spill-to : (o : Debt) (p r : Stand) (console : Option (List ℕ)) (faults : ℕ)
+spill-to : (o : Remainder) (p r : Stand) (console : Option (List ℕ)) (faults : ℕ)
     → TakesFront p.console console p.machine.devices.uart.out
     → Stopped o (record p { machine = without_out p.machine; console = console; console_faults = faults }) r
-    → Recorded Part o p r
+    → Recorded Part o nothing_left p r
 spill-to o p r console faults t s = record {
   events = s.recorded.events;
   bytes = p.machine.devices.uart.out ++ s.recorded.bytes;
@@ -100,26 +103,27 @@ spill-to o p r console faults t s = record {
   console = subst (λ (z : Option (List ℕ)). TakesFront p.console z (p.machine.devices.uart.out ++ s.recorded.bytes)) (sym s.console)
       (TakesFront-longer p.console console p.machine.devices.uart.out s.recorded.bytes t);
   console_faults = tt;
-  read = s.recorded.read;
+  left = s.recorded.left;
   heard = s.recorded.heard;
-  input_faults = tt;
+  leaves = λ same. absurd cc;
+  steady = tt;
   clock = s.recorded.clock;
 }
 
-spilled : (o : Debt) (p q r : Stand) → Shows p q (Err ConsoleWrite) → Stopped o q r
-    → Recorded Part o p r
+spilled : (o : Remainder) (p q r : Stand) → Shows p q (Err ConsoleWrite) → Stopped o q r
+    → Recorded Part o nothing_left p r
 spilled o p q r s stopped = spill-to o p r q.console q.console_faults s.0
     (subst (λ (z : Stand). Stopped o z r) s.1 stopped)
 
-spill-rose : (o : Debt) (p q r : Stand) → Shows p q (Err ConsoleWrite) → Stopped o q r
+spill-rose : (o : Remainder) (p q r : Stand) → Shows p q (Err ConsoleWrite) → Stopped o q r
     → Rose p.console_faults r.console_faults
 spill-rose o p q r s stopped =
     subst (λ (z : ℕ). Rose p.console_faults z) (sym stopped.console_faults) s.2
 
-spill-input : (o : Debt) (p q r : Stand) → Shows p q (Err ConsoleWrite) → Stopped o q r
-    → r.input.faults ≡ p.input.faults
-spill-input o p q r s stopped =
-    ap (λ (z : Intake). z.faults) stopped.input ∙ ap (λ (z : Stand). z.input.faults) s.1
+spill-unfailed : (o : Remainder) (p q r : Stand) → Shows p q (Err ConsoleWrite) → Stopped o q r
+    → Unfailed p.feed r.feed
+spill-unfailed o p q r s stopped =
+    same-unfailed p.feed r.feed (stopped.feed ∙ ap (λ (z : Stand). z.feed) s.1)
 
 -- a count that rose didn't stand
 pub not-both : (before now : ℕ) → Rose before now → Stood before now → ⊥
@@ -153,47 +157,27 @@ abbrev pub EndsInput : Event → Type 0
 EndsInput (event.End reason code) = Unit {0}
 EndsInput other = ⊥
 
-end-part : (o : Debt) (a : Option (List ℕ)) (e : Event) → EndsInput e → Heard Part o a (e ∷ []) a
-end-part o None e ends = tt
-end-part o (Some left) (event.End reason code) ends = ([], (λ whole. absurd cc, (λ whole. absurd cc, refl)))
-end-part o (Some left) (event.Instruction n) ends = absurd ends
-end-part o (Some left) event.Interrupt ends = absurd ends
-end-part o (Some left) event.Exception ends = absurd ends
-end-part o (Some left) (event.CharRead bytes) ends = absurd ends
-end-part o (Some left) (event.Block id ok) ends = absurd ends
-end-part o (Some left) (event.Net bytes) ends = absurd ends
-end-part o (Some left) (event.Clock value) ends = absurd ends
-end-part o (Some left) (event.Checkpoint idle) ends = absurd ends
-
-end-leaves : (e : Event) → EndsInput e → LeavesInput e
-end-leaves (event.End reason code) ends = tt
-end-leaves (event.Instruction n) ends = absurd ends
-end-leaves event.Interrupt ends = absurd ends
-end-leaves event.Exception ends = absurd ends
-end-leaves (event.CharRead bytes) ends = absurd ends
-end-leaves (event.Block id ok) ends = absurd ends
-end-leaves (event.Net bytes) ends = absurd ends
-end-leaves (event.Clock value) ends = absurd ends
-end-leaves (event.Checkpoint idle) ends = absurd ends
-
-no-read : (p r : Stand) (e : Event) → EndsInput e → r.input ≡ p.input
-    → Read Part p.input.left r.input.left (e ∷ [])
-no-read p r e ends same =
-    subst (λ (z : Intake). Read Part p.input.left z.left (e ∷ [])) (sym same)
-    (leaves-read Part e p.input.left (end-leaves e ends))
-
-no-part : (o : Debt) (p r : Stand) (e : Event) → EndsInput e → r.input ≡ p.input
-    → Heard Part o (unread p.input) (e ∷ []) (unread r.input)
-no-part o p r e ends same =
-    subst (λ (z : Intake). Heard Part o (unread p.input) (e ∷ []) (unread z)) (sym same)
-    (end-part o (unread p.input) e ends)
+-- END stops a window, whatever it has to take
+no-part : (o : Remainder) (p r : Stand) (e : Event) → EndsInput e → r.feed ≡ p.feed
+    → Hears o p.feed (e ∷ []) (Left [] true) r.feed
+no-part o p r (event.End reason code) ends same =
+    subst (λ (z : Feed). Hears o p.feed (event.End reason code ∷ []) (Left [] true) z) (sym same)
+    (inr (p.feed, inl refl, hears-none (Left [] true) p.feed))
+no-part o p r (event.Instruction n) ends same = absurd ends
+no-part o p r event.Interrupt ends same = absurd ends
+no-part o p r event.Exception ends same = absurd ends
+no-part o p r (event.CharRead bytes) ends same = absurd ends
+no-part o p r (event.Block id ok) ends same = absurd ends
+no-part o p r (event.Net bytes) ends same = absurd ends
+no-part o p r (event.Clock value) ends same = absurd ends
+no-part o p r (event.Checkpoint idle) ends same = absurd ends
 
 -- an event was entered, and the log ended after it
-noted-stopped : (o : Debt) (p : Stand) (m : State) (e : Event) (r : Stand) (after : Option (List ℕ))
+noted-stopped : (o : Remainder) (p : Stand) (m : State) (e : Event) (r : Stand) (after : Option (List ℕ))
     → step p.machine e ≡ Some m → IsEvent e
     → EndsInput e → clock_value e ≡ [] → TakesFront p.log.taken r.log.taken (p.log.unsent.held ++ text e)
-    → r.console ≡ p.console → r.console_faults ≡ p.console_faults → r.input ≡ p.input → r.gave ≡ p.gave → Stopped o p r
-noted-stopped o p m e r after s is ends none front console faults input gave = record {
+    → r.console ≡ p.console → r.console_faults ≡ p.console_faults → r.feed ≡ p.feed → r.gave ≡ p.gave → Stopped o p r
+noted-stopped o p m e r after s is ends none front console faults feed gave = record {
   recorded = record {
     events = e ∷ [];
     bytes = [];
@@ -205,22 +189,23 @@ noted-stopped o p m e r after s is ends none front console faults input gave = r
     log_faults = tt;
     console = subst (λ (z : Option (List ℕ)). TakesFront p.console z []) (sym console) (TakesFront-none p.console []);
     console_faults = tt;
-    read = no-read p r e ends input;
-    heard = no-part o p r e ends input;
-    input_faults = tt;
+    left = Left [] true;
+    heard = no-part o p r e ends feed;
+    leaves = λ same. absurd cc;
+    steady = tt;
     clock = no-value p r e none gave;
   };
   silent = refl;
   console = console;
   console_faults = faults;
-  input = input;
+  feed = feed;
 }
 
-unmoved : (o : Debt) (p : Stand) → Stopped o p p
+unmoved : (o : Remainder) (p : Stand) → Stopped o p p
 unmoved o p = flushed-stopped o p p (record { front = TakesFront-none p.log.taken p.log.unsent.held; rest = refl })
 
 -- memory was refused after the machine had taken an event
-moved : (o : Debt) (p : Stand) (m : State) → Stopped o p (record p { machine = m })
+moved : (o : Remainder) (p : Stand) (m : State) → Stopped o p (record p { machine = m })
 moved o p m =
     let s = unmoved o p in
     record {
@@ -235,19 +220,20 @@ moved o p m =
         log_faults = tt;
         console = s.recorded.console;
         console_faults = tt;
-        read = s.recorded.read;
+        left = s.recorded.left;
         heard = s.recorded.heard;
-        input_faults = tt;
+        leaves = λ same. absurd cc;
+        steady = tt;
         clock = s.recorded.clock;
       };
       silent = s.silent;
       console = refl;
       console_faults = refl;
-      input = refl;
+      feed = refl;
     }
 
 -- the log got the event, and all that it held was written
-entered-flushed : (o : Debt) (p q r : Stand) (e : Event) → IsEvent e → EndsInput e
+entered-flushed : (o : Remainder) (p q r : Stand) (e : Event) → IsEvent e → EndsInput e
     → clock_value e ≡ [] → Enters p q e (Ok tt) → Flushed q r → Stopped o p r
 entered-flushed o p q r e is ends none (inl refused) f = absurd cc
 entered-flushed o p q r e is ends none (inr took) f =
@@ -259,16 +245,16 @@ entered-flushed o p q r e is ends none (inr took) f =
     (subst (TakesFront p.log.taken r.log.taken) a.whole front)
     (ap (λ (z : Stand). z.console) f.rest ∙ ap (λ (z : Stand). z.console) rest)
     (ap (λ (z : Stand). z.console_faults) f.rest ∙ ap (λ (z : Stand). z.console_faults) rest)
-    (ap (λ (z : Stand). z.input) f.rest ∙ ap (λ (z : Stand). z.input) rest)
+    (ap (λ (z : Stand). z.feed) f.rest ∙ ap (λ (z : Stand). z.feed) rest)
     (ap (λ (z : Stand). z.gave) f.rest ∙ ap (λ (z : Stand). z.gave) rest)
 
-entered-stopped : (o : Debt) (p q r : Stand) (e : Event) (x : Result (Unit {0}) Break) → IsEvent e
+entered-stopped : (o : Remainder) (p q r : Stand) (e : Event) (x : Result (Unit {0}) Break) → IsEvent e
     → EndsInput e → clock_value e ≡ []
     → Enters p q e (Ok tt) → Sent q r q.log.unsent.held x → Stopped o p r
 entered-stopped o p q r e x is ends none en s = entered-flushed o p q r e is ends none en (sent-flushed q r x s)
 
 -- the event wasn't entered
-failed-stopped : (o : Debt) (p q : Stand) (e : Event) (b : Break) → IsEvent e → EndsInput e
+failed-stopped : (o : Remainder) (p q : Stand) (e : Event) (b : Break) → IsEvent e → EndsInput e
     → clock_value e ≡ []
     → Enters p q e (Err b) → Stopped o p q
 failed-stopped o p q e b is ends none (inl refused) = subst (Stopped o p) (sym refused.1) (unmoved o p)
@@ -279,7 +265,7 @@ failed-stopped o p q e LogWrite is ends none (inr took) =
     let rest = took.1.1 in
     noted-stopped o p q.machine e q q.console took.0 is ends none took.1.0
     (ap (λ (z : Stand). z.console) rest) (ap (λ (z : Stand). z.console_faults) rest)
-    (ap (λ (z : Stand). z.input) rest) (ap (λ (z : Stand). z.gave) rest)
+    (ap (λ (z : Stand). z.feed) rest) (ap (λ (z : Stand). z.gave) rest)
 
 -- where the console wasn't shown all, less is known of the stop
 less-stopped : (shown : Extent) (g : State) → IsStopped shown g → IsStopped Part g
@@ -287,7 +273,7 @@ less-stopped shown g (inl ended) = inl ended
 less-stopped shown g (inr owed) = inr (refl, owed.1, owed.2, owed.3, owed.4, owed.5)
 
 -- the log has all, and the console has a front of the bytes from before
-logged-to : (o : Debt) (shown : Extent) (p r : Stand) (console : Option (List ℕ)) (faults : ℕ)
+logged-to : (o : Remainder) (shown : Extent) (p r : Stand) (console : Option (List ℕ)) (faults : ℕ)
     → TakesFront p.console console p.machine.devices.uart.out
     → IsLogged shown o
     (record p { machine = without_out p.machine; console = console; console_faults = faults }) r
@@ -307,7 +293,7 @@ logged-to o shown p r console faults t s same = record {
       (p.machine.devices.uart.out ++ s.bytes)) (sym same)
       (TakesFront-longer p.console console p.machine.devices.uart.out s.bytes t);
   all = λ same. absurd cc;
-  read = s.read;
+  left = s.left;
   heard = s.heard;
   clock = s.clock;
 }
@@ -315,7 +301,7 @@ logged-to o shown p r console faults t s same = record {
 -- ---- what became of the log
 
 -- all that was held was written, where an END of the machine's own was due
-flushed-logged : (o : Debt) (p q : Stand) (reason code : ℕ) → p.machine.control.ended ≡ None
+flushed-logged : (o : Remainder) (p q : Stand) (reason code : ℕ) → p.machine.control.ended ≡ None
     → due p.machine ≡ due_is.End reason code → reason ≢ 1
     → Sent p q p.log.unsent.held (Ok tt) → IsLogged Part o p q
 flushed-logged o p q reason code going owed other s = record {
@@ -329,14 +315,12 @@ flushed-logged o p q reason code going owed other s = record {
   console = subst (λ (z : Stand). TakesFront p.console z.console []) (sym s.1)
       (TakesFront-none p.console []);
   all = λ same. absurd cc;
-  read = subst (λ (z : Stand). Read Part p.input.left z.input.left []) (sym s.1)
-      (read-none Part p.input.left);
-  heard = subst (λ (z : Stand). Heard Part o (unread p.input) [] (unread z.input)) (sym s.1)
-      (heard-none Part o (unread p.input) (λ same. absurd cc));
+  left = o;
+  heard = subst (λ (z : Stand). Hears o p.feed [] o z.feed) (sym s.1) (hears-none o p.feed);
   clock = subst (λ (z : Stand). Gave Part p.gave z.gave []) (sym s.1) (gave-none Part p.gave);
 }
 
-flushed-stops : (o : Debt) (p q : Stand) (reason code : ℕ) (x : Result (Unit {0}) Break)
+flushed-stops : (o : Remainder) (p q : Stand) (reason code : ℕ) (x : Result (Unit {0}) Break)
     → p.machine.control.ended ≡ None
     → due p.machine ≡ due_is.End reason code → reason ≢ 1
     → Sent p q p.log.unsent.held x → Stops Part o p q x
@@ -352,7 +336,7 @@ flushed-stops o p q reason code (Err ConsoleRead) going owed other s = absurd s
 flushed-stops o p q reason code (Err ConsoleWrite) going owed other s = absurd s
 
 -- END 3 was entered, and all that was held was written
-entered-logged : (o : Debt) (p q r : Stand) (e : Event) → IsEvent e → EndsInput e
+entered-logged : (o : Remainder) (p q r : Stand) (e : Event) → IsEvent e → EndsInput e
     → clock_value e ≡ [] → IsStopped Entire q.machine
     → q.machine.devices.uart.out ≡ []
     → step p.machine e ≡ Some q.machine
@@ -364,8 +348,8 @@ entered-logged o p q r e is ends none stopped silent s n sent =
     ∙ ap (λ (z : Stand). z.console) rest in
     let gave : r.gave ≡ p.gave = ap (λ (z : Stand). z.gave) sent.1
     ∙ ap (λ (z : Stand). z.gave) rest in
-    let input : r.input ≡ p.input = ap (λ (z : Stand). z.input) sent.1
-    ∙ ap (λ (z : Stand). z.input) rest in
+    let feed : r.feed ≡ p.feed = ap (λ (z : Stand). z.feed) sent.1
+    ∙ ap (λ (z : Stand). z.feed) rest in
     record {
       events = e ∷ [];
       bytes = [];
@@ -381,12 +365,12 @@ entered-logged o p q r e is ends none stopped silent s n sent =
       console = subst (λ (z : Option (List ℕ)). Takes p.console z []) (sym console)
           (Takes-refl p.console);
       all = λ same. silent;
-      read = no-read p r e ends input;
-      heard = no-part o p r e ends input;
+      left = Left [] true;
+      heard = no-part o p r e ends feed;
       clock = no-value p r e none gave;
     }
 
-pub entered-stops : (o : Debt) (p q r : Stand) (e : Event) (x : Result (Unit {0}) Break) → IsEvent e
+pub entered-stops : (o : Remainder) (p q r : Stand) (e : Event) (x : Result (Unit {0}) Break) → IsEvent e
     → EndsInput e
     → clock_value e ≡ []
     → (step p.machine e ≡ Some q.machine
@@ -406,7 +390,7 @@ entered-stops o p q r e (Err NoMemory) is ends none stopped (inr took) s = enter
 entered-stops o p q r e (Err ConsoleRead) is ends none stopped (inr took) s = absurd s
 entered-stops o p q r e (Err ConsoleWrite) is ends none stopped (inr took) s = absurd s
 
-pub failed-stops : (o : Debt) (p q : Stand) (e : Event) (b : Break) → IsEvent e → EndsInput e
+pub failed-stops : (o : Remainder) (p q : Stand) (e : Event) (b : Break) → IsEvent e → EndsInput e
     → clock_value e ≡ []
     → Enters p q e (Err b) → Stops Entire o p q (Err b)
 failed-stops o p q e NoMemory is ends none en = failed-stopped o p q e NoMemory is ends none en
@@ -419,16 +403,16 @@ failed-stops o p q e ConsoleWrite is ends none (inl refused) = absurd cc
 failed-stops o p q e ConsoleWrite is ends none (inr took) = absurd took.1
 
 -- the console's sink failed, and the recording was stopped, whatever broke it off
-spill-goes : (o : Debt) (shown : Extent) (p q r : Stand) (x : Result (Unit {0}) Break)
+spill-goes : (o : Remainder) (shown : Extent) (p q r : Stand) (x : Result (Unit {0}) Break)
     → Shows p q (Err ConsoleWrite)
-    → Stops shown o q r x → Goes o p r (Err (or_memory ConsoleWrite x))
+    → Stops shown o q r x → Goes o nothing_left p r (Err (or_memory ConsoleWrite x))
 spill-goes o shown p q r (Ok done) s stops = (
   spilled o p q r s stops.0,
   (
     spill-rose o p q r s stops.0,
     λ stood. logged-to o shown p r q.console q.console_faults s.0
         (subst (λ (z : Stand). IsLogged shown o z r) s.1 stops.1) stops.0.console,
-    spill-input o p q r s stops.0,
+    spill-unfailed o p q r s stops.0,
   ),
 )
 spill-goes o shown p q r (Err LogWrite) s stops = (
@@ -438,17 +422,17 @@ spill-goes o shown p q r (Err LogWrite) s stops = (
     λ stood. absurd (not-both p.log.faults r.log.faults
         (subst (λ (z : ℕ). Rose z r.log.faults) (ap (λ (z : Stand). z.log.faults) s.1) stops.1)
         stood),
-    spill-input o p q r s stops.0,
+    spill-unfailed o p q r s stops.0,
   ),
 )
 spill-goes o shown p q r (Err NoMemory) s stops = (spilled o p q r s stops, tt)
 spill-goes o shown p q r (Err ConsoleRead) s stops = absurd stops
 spill-goes o shown p q r (Err ConsoleWrite) s stops = absurd stops
 
-pub spills : (o : Debt) (shown : Extent) (p q r : Stand) (b c : Break) (x : Result (Unit {0}) Break)
+pub spills : (o : Remainder) (shown : Extent) (p q r : Stand) (b c : Break) (x : Result (Unit {0}) Break)
     → c ≡ or_memory b x
-    → Shows p q (Err b) → Stops shown o q r x → Goes o p r (Err c)
-spills o shown p q r ConsoleWrite c x is s stops = subst (λ (z : Break). Goes o p r (Err z)) (sym is)
+    → Shows p q (Err b) → Stops shown o q r x → Goes o nothing_left p r (Err c)
+spills o shown p q r ConsoleWrite c x is s stops = subst (λ (z : Break). Goes o nothing_left p r (Err z)) (sym is)
     (spill-goes o shown p q r x s stops)
 spills o shown p q r ConsoleRead c x is s stops = absurd s
 spills o shown p q r LogWrite c x is s stops = absurd s
@@ -482,10 +466,10 @@ shown-some p q LogWrite s = absurd s
 shown-some p q NoMemory s = absurd s
 
 -- the console's sink failed before an END of the machine's own
-pub conclusion-spills : (o : Debt) (p q r : Stand) (b c : Break) (x : Result (Unit {0}) Break)
+pub conclusion-spills : (o : Remainder) (p q r : Stand) (b c : Break) (x : Result (Unit {0}) Break)
     (reason code : ℕ) → c ≡ or_memory b x → Shows p q (Err b)
     → p.machine.control.ended ≡ None → due p.machine ≡ due_is.End reason code → Rests p
-    → Sent q r q.log.unsent.held x → Goes o p r (Err c)
+    → Sent q r q.log.unsent.held x → Goes o nothing_left p r (Err c)
 conclusion-spills o p q r b c x reason code is s going owed rests sent =
     let machine : q.machine ≡ without_out p.machine = shown-machine p q (Err b) s in
     let other : reason ≢ 1 =

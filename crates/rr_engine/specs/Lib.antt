@@ -1,4 +1,6 @@
 pub mod Input
+pub mod Feed
+pub mod Windows
 pub mod Stand
 pub mod Recording
 pub mod Work

@@ -2,7 +2,6 @@
 use Rattle.std.specs.Prelude.{◌≡◌, ◌≢◌, ℕ, true, false, List, [], ◌∷◌, ◌++◌, ◌⊎◌, ◌≤◌, Some, None, Result, Ok, Err}
 use Rattle.std.specs.declared.option.Option.{Option}
 use Rattle.std.specs.List.{AllByRecursion}
-use Rattle.std.specs.Io.KnownBytes.{IsAtEnd}
 use Rattle.outside.specs.Causes.{Rose, Stood}
 use Rattle.outside.specs.Told.{Takes, TakesFront}
 use Rattle.event_log.specs.declared.event.Event.{Event}
@@ -23,7 +22,9 @@ use Rattle.rr_engine.specs.declared.parts.RunEnd.TheVariants as ends
 use Rattle.rr_engine.specs.declared.parts.Break.{Break}
 use Rattle.rr_engine.specs.declared.parts.Break.TheVariants.{ConsoleRead, ConsoleWrite, LogWrite, NoMemory}
 use Rattle.rr_engine.specs.Stand.{Stand}
-use Rattle.rr_engine.specs.Input.{Extent, Entire, Part, Debt, unread, Heard, Read}
+use Rattle.rr_engine.specs.Input.{Extent, Entire, Part}
+use Rattle.rr_engine.specs.Feed.{Feed, IsOver, IsSound, Unfailed, Failed}
+use Rattle.rr_engine.specs.Windows.{Remainder, nothing_left, Hears}
 
 -- the value of a CLOCK event
 abbrev pub clock_value : Event → List ℕ
@@ -63,10 +64,16 @@ abbrev pub Counted : Extent → ℕ → ℕ → Type 0
 Counted Entire old new = new ≡ old
 Counted Part old new = Unit {0}
 
+-- no source failed, where the recording didn't break off
+abbrev pub Steady : Extent → Feed → Feed → Type 0
+Steady Entire old new = Unfailed old new
+Steady Part old new = Unit {0}
+
 -- The machine took these events, and gave these console bytes away; the log has the events, the
--- console the bytes, and its input and the clock gave what the events have. Where it broke off, the
--- log has a front of that, and the console too.
-pub record Recorded (extent : Extent) (debt : Debt) (p q : Stand) : Type 0 where
+-- console the bytes, and the inputs and the clock gave what the events have. Where it broke off, the
+-- log has a front of that, and the console too. Before and after it the last window has so much to
+-- take; after it that is told where the recording didn't break off.
+pub record Recorded (extent : Extent) (before after : Remainder) (p q : Stand) : Type 0 where
   pub events : List Event
   pub bytes : List ℕ
   pub last : State
@@ -77,9 +84,10 @@ pub record Recorded (extent : Extent) (debt : Debt) (p q : Stand) : Type 0 where
   pub log_faults : Counted extent p.log.faults q.log.faults
   pub console : Took extent p.console q.console bytes
   pub console_faults : Counted extent p.console_faults q.console_faults
-  pub read : Read extent p.input.left q.input.left events
-  pub heard : Heard extent debt (unread p.input) events (unread q.input)
-  pub input_faults : Counted extent p.input.faults q.input.faults
+  pub left : Remainder
+  pub heard : Hears before p.feed events left q.feed
+  pub leaves : extent ≡ Entire → left ≡ after
+  pub steady : Steady extent p.feed q.feed
   pub clock : Gave extent p.gave q.gave (clock_values events)
 
 -- END 3 ended the run; or, where the console couldn't be shown all, an END of the machine's own was
@@ -92,7 +100,7 @@ IsStopped shown g =
 
 -- The recording was stopped after these events, and the log has them all. The console was shown all
 -- of the bytes, or a front.
-pub record IsLogged (shown : Extent) (debt : Debt) (p q : Stand) : Type 0 where
+pub record IsLogged (shown : Extent) (before : Remainder) (p q : Stand) : Type 0 where
   pub events : List Event
   pub bytes : List ℕ
   pub last : State
@@ -102,29 +110,29 @@ pub record IsLogged (shown : Extent) (debt : Debt) (p q : Stand) : Type 0 where
   pub log : Takes p.log.taken q.log.taken (p.log.unsent.held ++ texts events)
   pub console : Took shown p.console q.console bytes
   pub all : shown ≡ Entire → last.devices.uart.out ≡ []
-  pub read : Read Part p.input.left q.input.left events
-  pub heard : Heard Part debt (unread p.input) events (unread q.input)
+  pub left : Remainder
+  pub heard : Hears before p.feed events left q.feed
   pub clock : Gave Part p.gave q.gave (clock_values events)
 
 -- why it broke off: by the first device that failed; what is then written to the log may fail too
-abbrev pub Broke : Debt → Stand → Stand → Break → Type 0
-Broke debt p q ConsoleRead =
-    Rose p.input.faults q.input.faults
-    × (Stood p.log.faults q.log.faults → IsLogged Entire debt p q)
+abbrev pub Broke : Remainder → Stand → Stand → Break → Type 0
+Broke before p q ConsoleRead =
+    Failed p.feed q.feed
+    × (Stood p.log.faults q.log.faults → IsLogged Entire before p q)
     × (q.console_faults ≡ p.console_faults)
-Broke debt p q ConsoleWrite =
+Broke before p q ConsoleWrite =
     Rose p.console_faults q.console_faults
-    × (Stood p.log.faults q.log.faults → IsLogged Part debt p q)
-    × (q.input.faults ≡ p.input.faults)
-Broke debt p q LogWrite =
+    × (Stood p.log.faults q.log.faults → IsLogged Part before p q)
+    × Unfailed p.feed q.feed
+Broke before p q LogWrite =
     Rose p.log.faults q.log.faults
-    × (q.console_faults ≡ p.console_faults) × (q.input.faults ≡ p.input.faults)
-Broke debt p q NoMemory = Unit {0}
+    × (q.console_faults ≡ p.console_faults) × Unfailed p.feed q.feed
+Broke before p q NoMemory = Unit {0}
 
--- the recording went on, or broke off; at first a window may owe its piece of the input
-abbrev pub Goes : Debt → Stand → Stand → Result (Unit {0}) Break → Type 0
-Goes debt p q (Ok done) = Recorded Entire debt p q
-Goes debt p q (Err broke) = Recorded Part debt p q × Broke debt p q broke
+-- the recording went on, or broke off; before and after it the last window has so much to take
+abbrev pub Goes : Remainder → Remainder → Stand → Stand → Result (Unit {0}) Break → Type 0
+Goes before after p q (Ok done) = Recorded Entire before after p q
+Goes before after p q (Err broke) = Recorded Part before after p q × Broke before p q broke
 
 -- an event that the machine accepts now
 pub record IsOwed (g : State) (e : Event) : Type 0 where
@@ -168,12 +176,12 @@ pub record Flushed (p q : Stand) : Type 0 where
 
 -- the recording was stopped: no more console bytes came, and the log has a front of what was
 -- recorded
-pub record Stopped (debt : Debt) (p q : Stand) : Type 0 where
-  pub recorded : Recorded Part debt p q
+pub record Stopped (before : Remainder) (p q : Stand) : Type 0 where
+  pub recorded : Recorded Part before nothing_left p q
   pub silent : recorded.bytes ≡ []
   pub console : q.console ≡ p.console
   pub console_faults : q.console_faults ≡ p.console_faults
-  pub input : q.input ≡ p.input
+  pub feed : q.feed ≡ p.feed
 
 -- a break, or want of memory, where that kept the rest of the log from its sink
 abbrev pub or_memory : Break → Result (Unit {0}) Break → Break
@@ -185,12 +193,12 @@ or_memory broke (Ok done) = broke
 
 -- The recording was stopped. What was recorded is in the log, or its sink failed, or memory was
 -- refused.
-abbrev pub Stops : Extent → Debt → Stand → Stand → Result (Unit {0}) Break → Type 0
-Stops shown debt p q (Ok done) = Stopped debt p q × IsLogged shown debt p q
-Stops shown debt p q (Err LogWrite) = Stopped debt p q × Rose p.log.faults q.log.faults
-Stops shown debt p q (Err NoMemory) = Stopped debt p q
-Stops shown debt p q (Err ConsoleRead) = ⊥
-Stops shown debt p q (Err ConsoleWrite) = ⊥
+abbrev pub Stops : Extent → Remainder → Stand → Stand → Result (Unit {0}) Break → Type 0
+Stops shown before p q (Ok done) = Stopped before p q × IsLogged shown before p q
+Stops shown before p q (Err LogWrite) = Stopped before p q × Rose p.log.faults q.log.faults
+Stops shown before p q (Err NoMemory) = Stopped before p q
+Stops shown before p q (Err ConsoleRead) = ⊥
+Stops shown before p q (Err ConsoleWrite) = ⊥
 
 -- an event that is accepted without a turn
 abbrev pub IsNoTurn : Event → Type 0
@@ -216,16 +224,15 @@ abbrev pub EndsByItself : State → Type 0
 EndsByItself g = HasOwnEnding g.control.ended g.devices.uart.out
 
 -- A recording that may go on, or ended by itself. An idle window that had no event stands only
--- where the console has all bytes and the input's end was answered, and so does an end for want of a
+-- where the console has all bytes and no input is left to come, and so does an end for want of a
 -- wake.
 pub record Rests (p : Stand) : Type 0 where
   pub own : EndsByItself p.machine
   pub silent : p.machine.control.window ≡ window.Idle false → p.machine.devices.uart.out ≡ []
-  pub idle : p.machine.control.window ≡ window.Idle false → p.input.progress.ended ≡ true
+  pub idle : p.machine.control.window ≡ window.Idle false → IsOver p.feed
   pub wakeless : (code : ℕ)
-      → p.machine.control.ended ≡ Some (record { reason = 1; code = code })
-      → p.input.progress.ended ≡ true
-  pub over : p.input.progress.ended ≡ true → IsAtEnd (unread p.input)
+      → p.machine.control.ended ≡ Some (record { reason = 1; code = code }) → IsOver p.feed
+  pub sound : IsSound p.feed
 
 -- an event of the machine's own, without input and without a turn
 abbrev pub IsOwn : Event → Type 0

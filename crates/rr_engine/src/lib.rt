@@ -2,6 +2,7 @@
 #![tactic(auto)]
 
 mod checkpoint;
+mod inputs;
 mod laws;
 mod parts;
 mod recorder;

@@ -2,8 +2,8 @@
 
 ghost use Rattle.std.specs.Prelude.{◌≡◌};
 
-use io_workers::{Pieces, ReadError};
-use outside::{Bytes, Careful, HostClock, Sink, Source};
+use crate::inputs::{Inputs, Received};
+use outside::{Careful, HostClock, Sink, Source};
 use std::alloc::Global;
 use std::marker::Model;
 
@@ -44,9 +44,9 @@ impl<S: Source, K: Sink, C: HostClock> Model for RecordParts<S, K, C> {
 }
 
 impl<S: Source, K: Sink, C: HostClock> RecordParts<S, K, C> {
-    ghost use Rattle.std.specs.Prelude.{◌≡◌, ◌∷◌, []};
+    ghost use Rattle.std.specs.Prelude.{◌≡◌, ◌∷◌, [], true, None, All, map};
     ghost use Rattle.outside.specs.Told.{Takes};
-    ghost use Rattle.io_workers.specs.Intake.{intake, Nexts};
+    ghost use Rattle.rr_engine.specs.Feed.{Receives, IsInput, IsOver, IsSound, event_of_item};
 
     /// The next value of the clock.
     pub(crate) fn now(&mut self) -> u64
@@ -56,18 +56,25 @@ impl<S: Source, K: Sink, C: HostClock> RecordParts<S, K, C> {
         self.clock.now()
     }
 
-    /// The next piece of the console's input, of which so much was read.
-    pub(crate) fn next_piece(
+    /// What a window receives.
+    pub(crate) fn receive<I: Inputs>(
         &mut self,
         alloc: Global,
-        pieces: &mut Pieces,
-    ) -> Result<Option<Bytes>, ReadError>
-        ensures next { Nexts (intake self.old.input self.old.input_faults pieces.old)
-            (intake self.new.input self.new.input_faults pieces.new) result }
+        idle: bool,
+        inputs: &mut I,
+    ) -> Received
+        requires sound { IsSound (I.feed inputs.old self.old.input self.old.input_faults) }
+        ensures receives { Receives (I.feed inputs.old self.old.input self.old.input_faults)
+            (I.feed inputs.new self.new.input self.new.input_faults)
+            (map event_of_item result.items.items) result.trouble }
+        ensures inputs { All IsInput result.items.items }
+        ensures quiet { idle ≡ true → result.items.items ≡ [] → result.trouble ≡ None
+            → IsOver (I.feed inputs.new self.new.input self.new.input_faults) }
+        ensures sound { IsSound (I.feed inputs.new self.new.input self.new.input_faults) }
         ensures rest { self.new
             ≡ record self.old { input = self.new.input; input_faults = self.new.input_faults } }
     {
-        pieces.next(alloc, &mut self.console)
+        inputs.receive(alloc, idle, &mut self.console)
     }
 }
 

@@ -5,22 +5,22 @@ ghost use Rattle.event_log.specs.Spelling.{text, IsEvent};
 ghost use Rattle.rr_engine.specs.Stand.{stand};
 ghost use Rattle.rr_engine.specs.Recording.{IsOwed, IsNoTurn, Enters, Notes, Shows};
 
+use crate::inputs::Inputs;
 use crate::parts::{Break, RecordParts};
 use board::{AcceptError, Machine};
 use event_log::{Event, StreamError, WriteBehind};
-use io_workers::Pieces;
 use outside::{HostClock, Sink, Source};
 use std::alloc::Global;
 
-/// The machine, what has gathered of its log, and how far the console's input was read.
+/// The machine, what has gathered of its log, and what gives its inputs.
 #[derive(Drop)]
-pub(crate) struct Recorder {
+pub(crate) struct Recorder<I> {
     pub machine: Machine,
     pub log: WriteBehind,
-    pub pieces: Pieces,
+    pub inputs: I,
 }
 
-impl Recorder {
+impl<I: Inputs> Recorder<I> {
     /// The machine takes an event that it accepts now, and the log gets it.
     #[tactic(auto, unfolding(board::specs::Runs::step))]
     pub fn enter<S: Source, K: Sink, C: HostClock>(
@@ -32,8 +32,8 @@ impl Recorder {
         requires works { self.old.log.failed ≡ false }
         requires owed { IsOwed self.old.machine e }
         requires is_no_turn { IsNoTurn e }
-        ensures { Enters (stand self.old parts.old)
-            (stand self.new parts.new) e result }
+        ensures { Enters (stand I.feed self.old parts.old)
+            (stand I.feed self.new parts.new) e result }
     {
         match self.machine.accept(&e, &[]) {
             Ok(()) => {}
@@ -53,8 +53,8 @@ impl Recorder {
     ) -> Result<(), Break>
         requires works { self.old.log.failed ≡ false }
         requires spelled { IsEvent e }
-        ensures { Notes (stand self.old parts.old)
-            (stand self.new parts.new) (text e) result }
+        ensures { Notes (stand I.feed self.old parts.old)
+            (stand I.feed self.new parts.new) (text e) result }
     {
         match self.log.put(alloc, &e, &mut parts.log) {
             Ok(()) => Ok(()),
@@ -70,8 +70,8 @@ impl Recorder {
         alloc: Global,
         parts: &mut RecordParts<S, K, C>,
     ) -> Result<(), Break>
-        ensures shows { Shows (stand self.old parts.old)
-            (stand self.new parts.new) result }
+        ensures shows { Shows (stand I.feed self.old parts.old)
+            (stand I.feed self.new parts.new) result }
     {
         let out = self.machine.take_out();
         if out.is_empty() {

@@ -10,6 +10,7 @@ ghost use Rattle.rr_engine.specs.Stand.{stand};
 ghost use Rattle.rr_engine.specs.Recording.{Sent, sent_of};
 ghost use Rattle.rr_engine.specs.Runs.{Records, start_of, config_of, run_end_of};
 
+use crate::inputs::Inputs;
 use crate::parts::{Break, RecordParts, RunEnd};
 use crate::recorder::Recorder;
 use board::{Config, Ending, Machine, Steps};
@@ -62,7 +63,7 @@ pub fn record_one<S: Source, K: Sink, C: HostClock, L: Ledger>(
     let mut recorder = Recorder {
         machine,
         log,
-        pieces: Pieces::new(),
+        inputs: Pieces::new(),
     };
     run_end(recorder.record(alloc, header, parts, steps))
 }
@@ -80,7 +81,7 @@ fn run_end(recorded: Result<Ending, Break>) -> RunEnd
     }
 }
 
-impl Recorder {
+impl Recorder<Pieces> {
     /// The header, what is due until the run has ended, and the rest of the log.
     fn record<S: Source, K: Sink, C: HostClock, L: Ledger>(
         &mut self,
@@ -91,7 +92,7 @@ impl Recorder {
     ) -> Result<Ending, Break>
         requires header { IsHeader header.now }
         requires log { self.old.log ≡ none_written }
-        requires unread { self.old.pieces ≡ none_given }
+        requires unread { self.old.inputs ≡ none_given }
         requires going { self.old.machine.control.ended ≡ None }
         requires shut { self.old.machine.control.window ≡ Window.Shut }
         ensures { Records self.old.machine (header_text header.now) parts.old parts.new
@@ -114,7 +115,9 @@ impl Recorder {
             None => unreachable!(),
         }
     }
+}
 
+impl<I: Inputs> Recorder<I> {
     /// The log gets the header.
     fn begin<S: Source, K: Sink, C: HostClock>(
         &mut self,
@@ -124,8 +127,8 @@ impl Recorder {
     ) -> Result<(), Break>
         requires header { IsHeader header.now }
         requires log { self.old.log ≡ none_written }
-        ensures sent { Sent (stand self.old parts.old)
-            (stand self.new parts.new) (header_text header.now) result }
+        ensures sent { Sent (stand I.feed self.old parts.old)
+            (stand I.feed self.new parts.new) (header_text header.now) result }
         ensures held { self.new.log.held ≡ [] }
     {
         sent(self.log.header(alloc, header, &mut parts.log))
@@ -137,8 +140,8 @@ impl Recorder {
         parts: &mut RecordParts<S, K, C>,
     ) -> Result<(), Break>
         requires { self.old.log.failed ≡ false }
-        ensures { Sent (stand self.old parts.old)
-            (stand self.new parts.new) self.old.log.held result }
+        ensures { Sent (stand I.feed self.old parts.old)
+            (stand I.feed self.new parts.new) self.old.log.held result }
     {
         sent(self.log.finish(&mut parts.log))
     }

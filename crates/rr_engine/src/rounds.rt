@@ -3,20 +3,23 @@
 ghost use Rattle.std.specs.Prelude.{◌≡◌, OnOk, IsSome, false};
 ghost use Rattle.board.specs.Due.{due};
 ghost use Rattle.board.specs.Answers.{Counts};
-ghost use Rattle.rr_engine.specs.Input.{Paid};
+ghost use Rattle.rr_engine.specs.Feed.{source_feed};
+ghost use Rattle.rr_engine.specs.Windows.{nothing_left};
 ghost use Rattle.rr_engine.specs.Stand.{stand};
 ghost use Rattle.rr_engine.specs.Recording.{Goes, Rests};
 ghost use Rattle.rr_engine.specs.Rounds.{GoesOn, Rounds};
 
+use crate::inputs::Inputs;
 use crate::parts::{Break, RecordParts};
 use crate::recorder::Recorder;
 use board::{Due, Steps};
 use event_log::Event;
+use io_workers::Pieces;
 use outside::{HostClock, Sink, Source};
 use std::alloc::Global;
 use std::sync::ledger::Ledger;
 
-impl Recorder {
+impl<I: Inputs> Recorder<I> {
     /// As many turns as run, as one INSTRUCTION.
     fn turns<S: Source, K: Sink, C: HostClock, L: Ledger>(
         &mut self,
@@ -26,8 +29,9 @@ impl Recorder {
     ) -> Result<(), Break>
         requires due { due self.old.machine ≡ Due.Run }
         requires counts { Counts self.old.machine.control self.old.machine.devices.time }
-        requires on { GoesOn (stand self.old parts.old) }
-        ensures { Rounds (stand self.old parts.old) (stand self.new parts.new) result }
+        requires on { GoesOn (stand I.feed self.old parts.old) }
+        ensures { Rounds (stand I.feed self.old parts.old) (stand I.feed self.new parts.new)
+            result }
     {
         match self.machine.run(u32::MAX, steps) {
             Ok(count) => self.note(alloc, Event::Instruction(count), parts),
@@ -43,8 +47,9 @@ impl Recorder {
     ) -> Result<(), Break>
         requires due { due self.old.machine ≡ Due.Clock }
         requires counts { Counts self.old.machine.control self.old.machine.devices.time }
-        requires on { GoesOn (stand self.old parts.old) }
-        ensures { Rounds (stand self.old parts.old) (stand self.new parts.new) result }
+        requires on { GoesOn (stand I.feed self.old parts.old) }
+        ensures { Rounds (stand I.feed self.old parts.old) (stand I.feed self.new parts.new)
+            result }
     {
         let value = parts.now();
         self.enter(alloc, Event::Clock(value), parts)
@@ -57,8 +62,9 @@ impl Recorder {
         parts: &mut RecordParts<S, K, C>,
         steps: &mut Steps<L>,
     ) -> Result<(), Break>
-        requires { GoesOn (stand self.old parts.old) }
-        ensures { Rounds (stand self.old parts.old) (stand self.new parts.new) result }
+        requires { GoesOn (stand I.feed self.old parts.old) }
+        ensures { Rounds (stand I.feed self.old parts.old) (stand I.feed self.new parts.new)
+            result }
     {
         match self.machine.due() {
             Due::Run => self.turns(alloc, parts, steps),
@@ -71,7 +77,9 @@ impl Recorder {
             Due::Wait | Due::Nothing => unreachable!(),
         }
     }
+}
 
+impl Recorder<Pieces> {
     /// Round after round, until the run has ended.
     pub fn run<S: Source, K: Sink, C: HostClock, L: Ledger>(
         &mut self,
@@ -79,12 +87,12 @@ impl Recorder {
         parts: &mut RecordParts<S, K, C>,
         steps: &mut Steps<L>,
     ) -> Result<(), Break>
-        requires { GoesOn (stand self.old parts.old) }
-        ensures goes { Goes Paid (stand self.old parts.old)
-            (stand self.new parts.new) result }
+        requires { GoesOn (stand source_feed self.old parts.old) }
+        ensures goes { Goes nothing_left nothing_left (stand source_feed self.old parts.old)
+            (stand source_feed self.new parts.new) result }
         ensures works { OnOk result (self.new.log.failed ≡ false) }
         ensures ended { OnOk result (IsSome self.new.machine.control.ended) }
-        ensures rests { OnOk result (Rests (stand self.new parts.new)) }
+        ensures rests { OnOk result (Rests (stand source_feed self.new parts.new)) }
     {
         'rounds: while self.machine.ended().is_none() {
             match self.round(alloc, parts, steps) {

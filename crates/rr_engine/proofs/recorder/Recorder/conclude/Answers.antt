@@ -1,4 +1,4 @@
-use Rattle.rr_engine.specs.Input.{Paid}
+use Rattle.rr_engine.specs.Windows.{nothing_left}
 use Rattle.rr_engine.specs.Stand.{stand}
 use Rattle.rr_engine.proofs.Stopping.{conclusion-spills}
 use Rattle.rr_engine.proofs.Rounding.{entered-works, conclude-owed, conclude-goes, conclude-falls, conclude-left, conclude-rests}
@@ -6,14 +6,15 @@ use Rattle.rr_engine.proofs.recorder.Recorder.conclude.Goals as goal
 
 pub enter-requires-clause-owed : goal.enter-requires-clause-owed
 enter-requires-clause-owed g c =
-    conclude-owed (stand c.args.self.now c.args.parts.now) (stand c.write_out.new.self c.write_out.new.parts)
+    conclude-owed (stand g.I.Inputs.feed c.args.self.now c.args.parts.now)
+    (stand g.I.Inputs.feed c.write_out.new.self c.write_out.new.parts)
     c.args.reason c.args.code c.in-Ok.ensures.shows c.requires.due c.requires.kind
 
 pub returns-in-Ok : goal.returns-in-Ok
 returns-in-Ok g c =
-    let p = stand c.args.self.now c.args.parts.now in
-    let q = stand c.write_out.new.self c.write_out.new.parts in
-    let r = stand c.enter.new.self c.enter.new.parts in
+    let p = stand g.I.Inputs.feed c.args.self.now c.args.parts.now in
+    let q = stand g.I.Inputs.feed c.write_out.new.self c.write_out.new.parts in
+    let r = stand g.I.Inputs.feed c.enter.new.self c.enter.new.parts in
     let on = c.requires.on in
     record {
       goes = conclude-goes p q _ c.args.reason c.args.code _ on.works c.in-Ok.ensures.shows
@@ -30,8 +31,8 @@ returns-in-Ok g c =
 
 pub returns-in-Err : goal.returns-in-Err
 returns-in-Err g c = record {
-  goes = conclusion-spills Paid (stand c.args.self.now c.args.parts.now)
-      (stand c.write_out.new.self c.write_out.new.parts)
+  goes = conclusion-spills nothing_left (stand g.I.Inputs.feed c.args.self.now c.args.parts.now)
+      (stand g.I.Inputs.feed c.write_out.new.self c.write_out.new.parts)
       _ _ _ _ c.args.reason c.args.code c.or_memory.ensures
       c.in-Err.ensures.shows c.requires.on.going c.requires.due c.requires.on.rests c.finish.ensures;
   works = tt;

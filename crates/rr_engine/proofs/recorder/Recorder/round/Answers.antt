@@ -9,7 +9,8 @@ enter-requires-clause-owed g c = owes_exception c.args.self.now.machine (sym c.i
 
 pub returns-in-Exception : goal.returns-in-Exception
 returns-in-Exception g c =
-    inner-round (stand c.args.self.now c.args.parts.now) (stand c.enter.new.self c.enter.new.parts) _ _ tt refl tt
+    inner-round (stand g.I.Inputs.feed c.args.self.now c.args.parts.now)
+    (stand g.I.Inputs.feed c.enter.new.self c.enter.new.parts) _ _ tt refl tt
     c.in-Exception.ensures.counts c.requires c.enter.ensures
 
 pub enter-requires-in-Interrupt-clause-owed : goal.enter-requires-in-Interrupt-clause-owed
@@ -17,6 +18,6 @@ enter-requires-in-Interrupt-clause-owed g c = owes_interrupt c.args.self.now.mac
 
 pub returns-in-Interrupt : goal.returns-in-Interrupt
 returns-in-Interrupt g c =
-    inner-round (stand c.args.self.now c.args.parts.now)
-    (stand c.enter-in-Interrupt.new.self c.enter-in-Interrupt.new.parts) _ _ tt refl tt
+    inner-round (stand g.I.Inputs.feed c.args.self.now c.args.parts.now)
+    (stand g.I.Inputs.feed c.enter-in-Interrupt.new.self c.enter-in-Interrupt.new.parts) _ _ tt refl tt
     c.in-Interrupt.ensures.counts c.requires c.enter-in-Interrupt.ensures

@@ -1,5 +1,5 @@
 use Rattle.std.proofs.Common.{refl}
-use Rattle.rr_engine.specs.Input.{Paid}
+use Rattle.rr_engine.specs.Windows.{nothing_left}
 use Rattle.rr_engine.specs.Stand.{stand}
 use Rattle.log_order.proofs.Advancing.{instruction}
 use Rattle.rr_engine.proofs.Running.{count-spelled, turns-fall, turns-going}
@@ -13,8 +13,8 @@ note-requires-clause-spelled g c =
 
 pub returns-in-Ok : goal.returns-in-Ok
 returns-in-Ok g c =
-    let p = stand c.args.self.now c.args.parts.now in
-    let q = stand c.note.new.self c.note.new.parts in
+    let p = stand g.I.Inputs.feed c.args.self.now c.args.parts.now in
+    let q = stand g.I.Inputs.feed c.note.new.self c.note.new.parts in
     let on = c.requires.on in
     let stepped = instruction c.in-Ok.count c.args.self.now.machine c.run.new.self c.requires.counts c.in-Ok.ensures.1 c.in-Ok.ensures.0 in
     let spelled = count-spelled c.in-Ok.count c.args.self.now.machine c.requires.counts c.requires.due c.in-Ok.ensures.1 in
@@ -30,7 +30,7 @@ returns-in-Ok g c =
 
 pub returns-in-Err : goal.returns-in-Err
 returns-in-Err g c = record {
-  goes = out-of-memory Paid (stand c.args.self.now c.args.parts.now) c.run.new.self;
+  goes = out-of-memory nothing_left nothing_left (stand g.I.Inputs.feed c.args.self.now c.args.parts.now) c.run.new.self;
   works = tt;
   left = tt;
   rests = tt;
