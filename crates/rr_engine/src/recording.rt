@@ -5,10 +5,11 @@ ghost use Rattle.elf_load.specs.Load.{LiesInRam};
 ghost use Rattle.event_log.specs.HeaderFormat.{IsHeader, header_text};
 ghost use Rattle.event_log.specs.Writing.{none_written};
 ghost use Rattle.io_workers.specs.Intake.{none_given};
+ghost use Rattle.board.specs.Reset.{start_of};
 ghost use Rattle.board.specs.declared.control.Window.TheVariants as Window;
 ghost use Rattle.rr_engine.specs.Stand.{stand};
 ghost use Rattle.rr_engine.specs.Recording.{Sent, sent_of};
-ghost use Rattle.rr_engine.specs.Runs.{Records, start_of, config_of, run_end_of};
+ghost use Rattle.rr_engine.specs.Runs.{Records, run_end_of};
 
 use crate::inputs::Inputs;
 use crate::parts::{Break, RecordParts, RunEnd};
@@ -20,19 +21,6 @@ use io_workers::Pieces;
 use outside::{HostClock, Sink, Source};
 use std::alloc::Global;
 use std::sync::ledger::Ledger;
-
-/// What a header says of the machine.
-pub(crate) fn config(header: &Header) -> Config
-    ensures { result ≡ config_of header.now }
-{
-    Config {
-        shift: header.shift,
-        ram_mib: header.ram_mib,
-        slice: header.slice,
-        budget: header.budget,
-        disk_len: header.disk_len,
-    }
-}
 
 /// Records the run of a firmware, whose log begins with the header.
 ///
@@ -54,7 +42,7 @@ pub fn record_one<S: Source, K: Sink, C: HostClock, L: Ledger>(
     ensures { Records (start_of header.now firmware.now) (header_text header.now)
         parts.old parts.new result }
 {
-    let Ok(machine) = Machine::reset(alloc, &config(header), firmware) else {
+    let Ok(machine) = Machine::reset(alloc, &Config::of(header), firmware) else {
         return RunEnd::NoMemory;
     };
     let Ok(log) = WriteBehind::new(alloc) else {

@@ -21,11 +21,11 @@ use Rattle.event_log.proofs.HeaderLaws.{one_headers}
 use Rattle.board.specs.Due.{due}
 use Rattle.board.specs.State.{State}
 use Rattle.board.specs.declared.control.Ending.{Ending}
+use Rattle.board.specs.Reset.{start_of}
 use Rattle.log_order.specs.declared.refusal.Found.TheVariants as found
 use Rattle.log_order.specs.declared.refusal.Refusal.{Refusal}
 use Rattle.log_order.specs.Order.{IsFirstWrong, IsWhole}
 use Rattle.log_order.proofs.Verdicts.{one-whole, whole-right, one-wrong}
-use Rattle.rr_engine.specs.Runs.{start_of}
 use Rattle.rrvm.specs.declared.difference.Difference.{Difference}
 use Rattle.rrvm.specs.declared.difference.Difference.TheVariants as difference
 use Rattle.rrvm.specs.declared.outcome.Outcome.{Outcome}

@@ -23,6 +23,7 @@ use Rattle.event_log.proofs.FrontLemmas.{same_front}
 use Rattle.event_log.proofs.HeaderLaws.{header_length, one_headers}
 use Rattle.board.specs.State.{State}
 use Rattle.board.specs.Runs.{run, turns}
+use Rattle.board.specs.Reset.{start_of}
 use Rattle.log_order.proofs.Following.{text-some}
 use Rattle.log_order.proofs.Verdicts.{whole-right}
 use Rattle.log_order.specs.Order.{IsFirstWrong, IsWhole, IsWrong}
@@ -30,7 +31,7 @@ use Rattle.log_order.specs.declared.refusal.Refusal.{Refusal}
 use Rattle.rr_engine.specs.Stand.{Devices}
 use Rattle.rr_engine.specs.Input.{Extent, Entire, Debt, Owed, Paid, Hears}
 use Rattle.rr_engine.specs.Recording.{clock_values}
-use Rattle.rr_engine.specs.Runs.{start_of, Records}
+use Rattle.rr_engine.specs.Runs.{Records}
 use Rattle.rr_engine.specs.declared.parts.RunEnd.TheVariants as run_end
 use Rattle.rr_engine.specs.declared.replaying.ReplayEnd.{ReplayEnd}
 use Rattle.rr_engine.specs.declared.replaying.ReplayEnd.TheVariants.{End, ConsoleWrite, LogRead, LogTooLong, Refused, NoMemory}

@@ -13,12 +13,13 @@ use Rattle.event_log.specs.declared.event.Event.{Event}
 use Rattle.event_log.specs.declared.header.Header.{Header}
 use Rattle.event_log.specs.HeaderFormat.{header_text}
 use Rattle.board.specs.State.{State}
+use Rattle.board.specs.Reset.{start_of}
 use Rattle.rr_engine.specs.declared.parts.RunEnd.{RunEnd}
 use Rattle.rr_engine.specs.declared.parts.RunEnd.TheVariants.{End, ConsoleRead, ConsoleWrite, LogWrite, NoMemory}
 use Rattle.rr_engine.specs.Stand.{Devices}
 use Rattle.rr_engine.specs.Input.{Extent, Entire, Part, Paid, typed, Hears}
 use Rattle.rr_engine.specs.Recording.{clock_values, Took}
-use Rattle.rr_engine.specs.Runs.{start_of, Came, Whole, Front, ToStop, Records}
+use Rattle.rr_engine.specs.Runs.{Came, Whole, Front, ToStop, Records}
 use Rattle.rr_engine.proofs.Hearing.{hears-weak, read-weak}
 use Rattle.rrvm.specs.declared.recording.RecordingEnd.{RecordingEnd}
 use Rattle.rrvm.specs.declared.recording.RecordingEnd.TheVariants as ends

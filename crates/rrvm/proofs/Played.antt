@@ -15,7 +15,7 @@ use Rattle.event_log.specs.declared.event.Event.{Event}
 use Rattle.event_log.specs.declared.header.Header.{Header}
 use Rattle.event_log.specs.Reading.{Reader, ahead}
 use Rattle.board.specs.State.{State}
-use Rattle.rr_engine.specs.Runs.{start_of}
+use Rattle.board.specs.Reset.{start_of}
 use Rattle.rr_engine.specs.declared.replaying.ReplayEnd.{ReplayEnd}
 use Rattle.rr_engine.specs.declared.replaying.ReplayEnd.TheVariants.{End, ConsoleWrite, LogRead, LogTooLong, Refused, NoMemory}
 use Rattle.rr_engine.specs.Replaying.{played, Plays, PlaysPart, Replays}

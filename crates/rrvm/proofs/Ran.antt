@@ -13,9 +13,9 @@ use Rattle.command_line.specs.Words.{Recording, Records}
 use Rattle.elf_load.specs.declared.pieces.Loaded.{Loaded}
 use Rattle.event_log.specs.declared.header.Header.{Header}
 use Rattle.event_log.specs.HeaderFormat.{header_text}
-use Rattle.board.specs.Reset.{reset}
+use Rattle.board.specs.Reset.{reset, start_of}
 use Rattle.rr_engine.specs.Input.{Extent, Entire, Part}
-use Rattle.rr_engine.specs.Runs.{start_of, Whole, Front, ToStop, IsOwnReason, IsLogOf}
+use Rattle.rr_engine.specs.Runs.{Whole, Front, ToStop, IsOwnReason, IsLogOf}
 use Rattle.rrvm.specs.declared.firmware.Firmware.{Firmware}
 use Rattle.rrvm.specs.declared.firmware.TheConstants.{FIRMWARE_LIMIT}
 use Rattle.rrvm.specs.declared.recording.RecordingEnd.{RecordingEnd}

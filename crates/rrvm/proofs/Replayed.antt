@@ -21,14 +21,13 @@ use Rattle.event_log.specs.Grammar.{Stops, Cut}
 use Rattle.event_log.specs.Spelling.{event, texts}
 use Rattle.event_log.specs.Reading.{Reader, ahead, to_limit}
 use Rattle.event_log.proofs.HeaderLaws.{header_length, header_drop}
-use Rattle.board.specs.Reset.{reset}
+use Rattle.board.specs.Reset.{reset, start_of}
 use Rattle.board.specs.Due.{due}
 use Rattle.board.specs.State.{State}
 use Rattle.log_order.proofs.EndKinds.{ending-kind}
 use Rattle.log_order.specs.declared.refusal.Refusal.{Refusal}
 use Rattle.log_order.specs.declared.refusal.Found.TheVariants as found
 use Rattle.log_order.specs.Order.{Accepted, IsWrong}
-use Rattle.rr_engine.specs.Runs.{start_of}
 use Rattle.rr_engine.specs.declared.replaying.ReplayEnd.{ReplayEnd}
 use Rattle.rr_engine.specs.declared.replaying.ReplayEnd.TheVariants as replay_end
 use Rattle.rr_engine.specs.Replaying.{Played, played, Plays, PlaysWhole, PlaysToWrong, PlaysToLimit, Replays, IsWrongAt, IsPastLimit}

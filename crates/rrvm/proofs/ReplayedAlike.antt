@@ -15,7 +15,7 @@ use Rattle.log_order.specs.declared.refusal.Refusal.{Refusal}
 use Rattle.log_order.specs.Order.{IsWhole}
 use Rattle.log_order.proofs.Recorded.{recorded-whole}
 use Rattle.log_order.proofs.Verdicts.{one-whole}
-use Rattle.rr_engine.specs.Runs.{start_of}
+use Rattle.board.specs.Reset.{start_of}
 use Rattle.rrvm.specs.declared.outcome.Outcome.{Outcome}
 use Rattle.rrvm.specs.declared.outcome.Outcome.TheVariants.{Printed, GuestEnded, IdleForEver, BudgetReached, BadWord, WordsMissing, CannotOpen, CannotRead, ConsoleUnreadable, ConsoleFailed, LogFailed, LogUnreadable, BadFirmware, RecordingStopped, HeaderRefused, LogRefused, ImagesDiffer, LogTooLong, QuietFailed, NoMemory}
 use Rattle.rrvm.specs.Outcomes.{status_of}

@@ -12,9 +12,9 @@ use Rattle.event_log.specs.Spelling.{texts, IsEvent}
 use Rattle.event_log.specs.Reading.{Reader, ahead}
 use Rattle.board.specs.State.{State}
 use Rattle.board.specs.Runs.{run, turns}
+use Rattle.board.specs.Reset.{start_of}
 use Rattle.rr_engine.specs.Input.{Entire, Paid, Hears}
 use Rattle.rr_engine.specs.Recording.{clock_values}
-use Rattle.rr_engine.specs.Runs.{start_of}
 use Rattle.rrvm.specs.Guests.{guest_bytes}
 use Rattle.rrvm.specs.Headers.{header_of}
 

@@ -9,9 +9,10 @@ use Rattle.elf_load.specs.declared.pieces.Loaded.{Loaded}
 use Rattle.elf_load.specs.Load.{loaded}
 use Rattle.event_log.specs.declared.header.Header.{Header}
 use Rattle.event_log.specs.HeaderFormat.{header_text}
+use Rattle.board.specs.Reset.{start_of}
 use Rattle.rr_engine.specs.Stand.{Devices}
 use Rattle.rr_engine.specs.Input.{Extent}
-use Rattle.rr_engine.specs.Runs.{start_of, Whole, Front, ToStop, IsLogOf}
+use Rattle.rr_engine.specs.Runs.{Whole, Front, ToStop, IsLogOf}
 use Rattle.rrvm.specs.declared.firmware.TheConstants.{FIRMWARE_LIMIT}
 use Rattle.rrvm.specs.Headers.{header_of}
 

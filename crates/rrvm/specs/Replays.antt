@@ -17,10 +17,10 @@ use Rattle.event_log.specs.declared.rule.Rule.{Rule}
 use Rattle.event_log.specs.Grammar.{Stops, Bad}
 use Rattle.event_log.specs.HeaderFormat.{header as header_format, header_text, IsHeader}
 use Rattle.board.specs.State.{State}
+use Rattle.board.specs.Reset.{start_of}
 use Rattle.log_order.specs.declared.refusal.Refusal.{Refusal}
 use Rattle.log_order.specs.declared.refusal.Found.TheVariants as found
 use Rattle.log_order.specs.Order.{Accepted, IsFirstWrong, IsWhole}
-use Rattle.rr_engine.specs.Runs.{start_of}
 use Rattle.rrvm.specs.declared.difference.Difference.{Difference}
 use Rattle.rrvm.specs.declared.difference.Difference.TheVariants.{Shift, Ram, Firmware, DiskLength, Disk}
 use Rattle.rrvm.specs.declared.firmware.TheConstants.{FIRMWARE_LIMIT}

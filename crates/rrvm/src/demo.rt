@@ -4,7 +4,7 @@ ghost use Rattle.std.specs.Prelude.{◌≡◌, ◌≤◌, ◌^◌, drop, length,
 ghost use Rattle.elf_load.specs.Load.{loaded, LiesInRam};
 ghost use Rattle.event_log.specs.declared.header.Header.{Header as AHeader};
 ghost use Rattle.event_log.specs.HeaderFormat.{IsHeader, header_text};
-ghost use Rattle.rr_engine.specs.Runs.{start_of};
+ghost use Rattle.board.specs.Reset.{start_of};
 ghost use Rattle.rrvm.specs.Headers.{header_of};
 ghost use Rattle.rrvm.specs.Replays.{HasHeader};
 ghost use Rattle.rrvm.specs.Demos.{demo_recording, Demonstration, demo_line, IsRaw, IsRecording, IsRecordedFrom, IsBehindHeader};

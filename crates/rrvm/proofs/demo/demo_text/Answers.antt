@@ -2,7 +2,7 @@ use Rattle.std.proofs.Common.{◌≡◌, ◌∙◌, ℕ, List, ap, sym, subst, l
 use Rattle.std.proofs.lemmas.Slice.Eq.{bytes_eq-Decides}
 use Rattle.elf_load.specs.Load.{loaded}
 use Rattle.event_log.specs.declared.event.Event.{Event}
-use Rattle.rr_engine.specs.Runs.{start_of}
+use Rattle.board.specs.Reset.{start_of}
 use Rattle.rrvm.specs.Headers.{header_of}
 use Rattle.rrvm.specs.Demos.{demo_recording, HasEvents}
 use Rattle.rrvm.proofs.DemoRuns.{recording-long, recording-events, demonstrated}

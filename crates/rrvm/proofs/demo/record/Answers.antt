@@ -1,7 +1,7 @@
 use Rattle.std.proofs.Common.{◌∙◌, ℕ, List, ap, sym, replicate}
 use Rattle.std.specs.Prelude.{Some, option_map}
 use Rattle.event_log.specs.HeaderFormat.{header_text}
-use Rattle.rr_engine.specs.Runs.{start_of}
+use Rattle.board.specs.Reset.{start_of}
 use Rattle.rr_engine.specs.Stand.{Devices}
 use Rattle.rrvm.proofs.DemoRuns.{recorded}
 use Rattle.rrvm.proofs.demo.record.Goals as goal

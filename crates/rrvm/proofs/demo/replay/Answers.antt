@@ -1,5 +1,5 @@
 use Rattle.std.proofs.Common.{◌∙◌, sym}
-use Rattle.rr_engine.specs.Runs.{start_of}
+use Rattle.board.specs.Reset.{start_of}
 use Rattle.rr_engine.specs.Replaying.{played}
 use Rattle.rrvm.proofs.DemoRuns.{copy-starts, recorded-from, repeats, ends-whole, shown-again, if-ok}
 use Rattle.rrvm.proofs.demo.replay.Goals as goal

@@ -1,13 +1,13 @@
 use Rattle.std.proofs.Common.{◌≡◌, ℕ, ap, ◌∙◌, sym, arith}
 use Rattle.outside.specs.Causes.{one_more}
 use Rattle.outside.proofs.OpeningLemmas.{OpensFront-all}
+use Rattle.board.specs.Reset.{start_of}
 use Rattle.rrvm.specs.Openings.{device_openings}
 use Rattle.outside.specs.Ledger.{Ledger}
 use Rattle.outside.specs.Roles.{at}
 use Rattle.outside.specs.declared.roles.Role.TheVariants.{LogOut}
 use Rattle.rrvm.proofs.Fresh.{recorded-whole, recorded-front, recorded-stop, opens-no-stop}
 use Rattle.event_log.specs.HeaderFormat.{header_text}
-use Rattle.rr_engine.specs.Runs.{start_of}
 use Rattle.rrvm.proofs.Counting.{recorded-kept}
 use Rattle.rrvm.proofs.recording.record.Goals as goal
 

@@ -1,7 +1,7 @@
 use Rattle.std.proofs.Common.{Err, ap, sym, subst, ◌∙◌}
 use Rattle.outside.specs.Ledger.{StartsEmpty, sink_back}
 use Rattle.outside.specs.declared.roles.Role.TheVariants.{ConsoleOut}
-use Rattle.rr_engine.specs.Runs.{start_of}
+use Rattle.board.specs.Reset.{start_of}
 use Rattle.rrvm.proofs.Played.{shows-over, shows-nothing}
 use Rattle.rrvm.proofs.replaying.show.Goals as goal
 
