@@ -154,10 +154,6 @@ refused p d d' before e h = (
   tt,
 )
 
--- what Notes leaves as it was
-abbrev pub noted-stand : Stand → State → Writer → Stand
-noted-stand p m w = record p { machine = m; log = w }
-
 pub rest-of : (p q : Stand) (bytes : List ℕ) (x : Result (Unit {0}) Break) → Notes p q bytes x → q ≡ record p { log = q.log }
 rest-of p q bytes (Ok done) n = n.1
 rest-of p q bytes (Err LogWrite) n = n.1

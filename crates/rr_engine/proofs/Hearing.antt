@@ -266,10 +266,6 @@ ends-over old new (inl before) over =
     subst (λ (z : Intake). IsAtEnd (unread z)) (sym before.1) (over before.0)
 ends-over old new (inr now) over = over-unread new now.4
 
-pub ends-flag : (old new : Intake) → Ends old new → new.progress.ended ≡ true
-ends-flag old new (inl before) = ap (λ (z : Intake). z.progress.ended) before.1 ∙ before.0
-ends-flag old new (inr now) = ap (λ (z : Progress). z.ended) now.1
-
 pub ends-faults : (old new : Intake) → Ends old new → new.faults ≡ old.faults
 ends-faults old new (inl before) = ap (λ (z : Intake). z.faults) before.1
 ends-faults old new (inr now) = now.3

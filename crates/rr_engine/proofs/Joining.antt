@@ -115,10 +115,6 @@ appended-none w works = record { written = []; taken = Takes-refl w.taken; whole
 pub gave-none : (w : Extent) (a : Option (List ℕ)) → Gave w a a []
 gave-none w a = record { more = []; gave = Takes-refl a; all = λ e. refl }
 
-pub steady-weak : (w : Extent) (a b : Feed) → Unfailed a b → Steady w a b
-steady-weak Entire a b p = p
-steady-weak Part a b p = tt
-
 steady-then : (w : Extent) (a b c : Feed) → Steady Entire a b → Steady w b c → Steady w a c
 steady-then Entire a b c p q = unfailed-then a b c p q
 steady-then Part a b c p q = tt

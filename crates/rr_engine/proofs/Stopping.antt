@@ -447,13 +447,6 @@ shown-machine p q (Err ConsoleRead) s = absurd s
 shown-machine p q (Err LogWrite) s = absurd s
 shown-machine p q (Err NoMemory) s = absurd s
 
-pub shown-log : (p q : Stand) (x : Result (Unit {0}) Break) → Shows p q x → q.log ≡ p.log
-shown-log p q (Ok done) s = ap (λ (z : Stand). z.log) s.1
-shown-log p q (Err ConsoleWrite) s = ap (λ (z : Stand). z.log) s.1
-shown-log p q (Err ConsoleRead) s = absurd s
-shown-log p q (Err LogWrite) s = absurd s
-shown-log p q (Err NoMemory) s = absurd s
-
 -- what is due doesn't depend on bytes that were taken
 pub due-without : (g : State) → due (without_out g) ≡ due g
 due-without g = sym (due-with g.devices.uart.out (without_out g)) ∙ ap due (with-taken g)

@@ -44,11 +44,6 @@ owes-input g (item.Console bytes) is opens = owes_piece g bytes opens is
 owes-input g (item.Packet packet) is opens = owes_packet g packet opens is
 owes-input g (item.Done id read) is opens = absurd is
 
-pub no-turn : (x : Item) → IsNoTurn (event_of_item x)
-no-turn (item.Console bytes) = tt
-no-turn (item.Packet packet) = tt
-no-turn (item.Done id read) = tt
-
 is-windows : (x : Item) → IsWindows (event_of_item x)
 is-windows (item.Console bytes) = tt
 is-windows (item.Packet packet) = tt
