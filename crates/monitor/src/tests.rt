@@ -61,6 +61,7 @@ fn answered<L: Ledger>(
     let mut log = Vec::new(alloc);
     put_header(alloc, &header, &mut log)?;
     log.extend_from_slice(events)?;
+    assert!(rt; log.len() >= 98);
     let (mut t, refusal) = Timeline::open(alloc, &header, log, &firmware, &mut steps)?;
     assert!(rt; refusal.is_none());
 

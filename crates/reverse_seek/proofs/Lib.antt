@@ -7,3 +7,4 @@ pub mod Nearest
 pub mod Opening
 pub mod Parting
 pub mod Least
+mod LastAt

@@ -4,3 +4,4 @@ pub mod Mark
 pub mod Moves
 pub mod Snapshots
 pub mod Timeline
+pub mod Trace

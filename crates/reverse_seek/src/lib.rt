@@ -8,6 +8,7 @@
 
 mod breaks;
 mod error;
+mod laws;
 mod mark;
 mod script;
 mod snapshots;
@@ -15,4 +16,5 @@ mod stride;
 mod timeline;
 
 pub use error::SeekError;
+pub use laws::state_is_the_last_at_its_count;
 pub use timeline::Timeline;
