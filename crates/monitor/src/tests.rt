@@ -7,7 +7,6 @@ use board::Steps;
 use elf_load::load;
 use event_log::{Header, put_header};
 use outside::{Careful, MemSink, MemSource};
-use reverse_seek::Timeline;
 use std::alloc::Global;
 use std::marker::Brand;
 use std::process::Abort;
@@ -48,7 +47,7 @@ fn recorded(alloc: Global, events: &[u8]) -> Result<Vec<u8>, Fail> {
     Ok(log)
 }
 
-/// What a session over the log of a guest answers to this input.
+/// What a session over the log of a guest answers to this input, and whether the log is accepted.
 fn answered<L: Ledger>(
     rt: &impl Abort,
     alloc: Global,
@@ -56,7 +55,7 @@ fn answered<L: Ledger>(
     events: &[u8],
     input: &str,
     steps: &mut Steps<L>,
-) -> Result<Vec<u8>, Fail> {
+) -> Result<(Vec<u8>, bool), Fail> {
     let mut words = Vec::new(alloc);
     for word in guest {
         words.extend_from_slice(&word.to_le_bytes())?;
@@ -64,14 +63,13 @@ fn answered<L: Ledger>(
     let firmware = load(alloc, &words, 1)?;
     let log = recorded(alloc, events)?;
     assert!(rt; log.len() >= 98);
-    let (mut timeline, refusal) = Timeline::open(alloc, &HEADER, log, &firmware, steps)?;
-    assert!(rt; refusal.is_none());
     let bytes = input.as_bytes().to_vec(alloc)?;
     let mut source = MemSource::new(bytes, Vec::new(alloc), Vec::new(alloc));
     let mut out = Careful::new(MemSink::new(alloc, Vec::new(alloc)));
-    let end = session(alloc, &mut timeline, &mut source, &mut out, steps);
-    assert_eq!(rt; end, SessionEnd::Done);
-    Ok(out.into_inner().bytes().to_vec(alloc)?)
+    let end = debug_log(alloc, &HEADER, log, &firmware, &mut source, &mut out, steps);
+    let accepted = matches!(&end, DebugEnd::Done);
+    assert!(rt; accepted || matches!(&end, DebugEnd::Refused(_)));
+    Ok((out.into_inner().bytes().to_vec(alloc)?, accepted))
 }
 
 /// A letter's run: moves, a dump, lines that are wrong, breaks in both directions, and registers.
@@ -96,8 +94,8 @@ fn over_a_letter<L: Ledger>(rt: &impl Abort, alloc: Global, blank: Blank) -> Res
             at 0 pc 80000000\nat the start\nat 2 pc 80000008\n",
         ),
         (
-            "replay_seek 3\ninfo registers\n",
-            "at 3 pc 8000000c\npc 8000000c mode M count 3\n\
+            "replay_seek 2\nreplay_delete_break\nstep\ninfo registers\n",
+            "at 2 pc 80000008\nbreaks deleted\nat 3 pc 8000000c\npc 8000000c mode M count 3\n\
             x0 00000000 x1 00000000 x2 00000000 x3 00000000\n\
             x4 00000000 x5 10000000 x6 00000041 x7 00000000\n\
             x8 00000000 x9 00000000 x10 00000000 x11 00000000\n\
@@ -112,7 +110,8 @@ fn over_a_letter<L: Ledger>(rt: &impl Abort, alloc: Global, blank: Blank) -> Res
         ),
     ];
     for (input, answer) in rows {
-        let told = answered(rt, alloc, &LETTER, &LETTER_LOG, input, &mut steps)?;
+        let (told, accepted) = answered(rt, alloc, &LETTER, &LETTER_LOG, input, &mut steps)?;
+        assert!(rt; accepted);
         assert_eq!(rt; told.as_slice(), answer.as_bytes());
     }
     Ok(())
@@ -123,7 +122,8 @@ fn a_letters_run_is_walked_back_and_forth(rt: HostRuntime) -> Result<(), Fail> {
     over_a_letter::<Brand>(&rt, rt.alloc(), Blank::new(1))
 }
 
-/// At count 11 the interrupt was taken already: a place lies after the events before its turn.
+/// At count 11 the interrupt was taken already: a place lies after the events before its turn. The
+/// log is cut in its END, and the session is over the part before that.
 fn over_a_timer<L: Ledger>(rt: &impl Abort, alloc: Global, blank: Blank) -> Result<(), Fail>
     requires name { blank.name ≡ L.name }
     requires parts { blank.parts ≡ L.parts }
@@ -131,7 +131,8 @@ fn over_a_timer<L: Ledger>(rt: &impl Abort, alloc: Global, blank: Blank) -> Resu
 {
     let mut steps: Steps<L> = Steps::open(blank);
     let input = "replay_seek 11\nreverse-step\n";
-    let told = answered(rt, alloc, &TIMER, &TIMER_LOG, input, &mut steps)?;
+    let (told, accepted) = answered(rt, alloc, &TIMER, &TIMER_LOG[..18], input, &mut steps)?;
+    assert!(rt; !accepted);
     assert_eq!(rt;
         told.as_slice(),
         b"at 11 pc 80000030\nat 10 pc 80000028\n".as_slice()
