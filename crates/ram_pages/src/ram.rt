@@ -10,7 +10,7 @@ use crate::NoMemory;
 use crate::draft::{Changes, Draft};
 use crate::fresh::{lay, settle, write_with};
 use crate::page::{PAGE, Page};
-use crate::pages::{blank, len_of, shared};
+use crate::pages::{blank, has_page, len_of, shared};
 use crate::reading::{copy_from, number_in, number_in_page, u16_at, u32_at, u64_at};
 use crate::writing::write_in_page;
 use std::alloc::Global;
@@ -110,7 +110,7 @@ impl Ram {
         ensures outside { IfNone result (¬ LiesIn self.now at size) }
     {
         let place = at.wrapping_add(0x8000_0000) as usize;
-        if place < len_of(self.pages.as_slice()) {
+        if has_page(self.pages.as_slice(), place) {
             Some(place)
         } else {
             None
