@@ -4,10 +4,12 @@
 //! firmware is missing, and one that no run would take.
 #![tactic(auto)]
 
+mod laws;
 mod listing;
 #[cfg(test)]
 mod tests;
 mod texts;
 
+pub use laws::longest;
 pub use listing::{ListEnd, list_events};
 pub use texts::{end_text, event_text};
