@@ -23,7 +23,7 @@ split : (e f : Event) (es fs : List Event) (rest other : List ℕ) → IsEvent e
 split e f es fs rest other is-e is-f same =
     same_front e f (texts es ++ rest) (texts fs ++ other) is-e is-f
     (sym (append_assoc (text e) (texts es) rest) ∙ same
-        ∙ append_assoc (text f) (texts fs) other)
+    ∙ append_assoc (text f) (texts fs) other)
 
 fronts : (es fs : List Event) (rest other : List ℕ) → AllByRecursion IsEvent es
     → AllByRecursion IsEvent fs → texts es ++ rest ≡ texts fs ++ other → length es ≤ length fs
@@ -73,8 +73,12 @@ sizes : (es : List Event) (d : Event) (ds : List Event)
     → length (texts es) + length (text d) ≤ length (texts (es ++ d ∷ ds))
 sizes [] d ds = omega (arith, length-append (text d) (texts ds))
 sizes (e ∷ es) d ds =
-    omega (arith, sizes es d ds, length-append (text e) (texts es),
-    length-append (text e) (texts (es ++ d ∷ ds)))
+    omega (
+      arith,
+      sizes es d ds,
+      length-append (text e) (texts es),
+      length-append (text e) (texts (es ++ d ∷ ds)),
+    )
 
 -- what rules out that an event stands behind these
 abbrev Ends : List Event → (List ℕ → Type 0) → Type 0

@@ -55,7 +55,7 @@ lines-more [] e i at =
     let here : i + 0 ≡ i = omega arith in
     let there : at + 0 ≡ at = omega arith in
     append-nil (event_line i at e) ∙ ap (λ z. event_line z at e) (sym here)
-        ∙ ap (λ z. event_line (i + 0) z e) (sym there)
+    ∙ ap (λ z. event_line (i + 0) z e) (sym there)
 lines-more (d ∷ es) e i at =
     let first = event_line i at d in
     let next : ℕ = at + length (text d) in
@@ -64,10 +64,10 @@ lines-more (d ∷ es) e i at =
     let place : next + length (texts es) ≡ at + length (texts (d ∷ es)) =
     omega (arith, length-append (text d) (texts es)) in
     ap (λ z. first ++ z) (lines-more es e (i + 1) next)
-        ∙ ap (λ z. first ++ (rest ++ event_line z (next + length (texts es)) e)) number
-        ∙ ap (λ z. first ++ (rest ++ event_line (i + length (d ∷ es)) z e)) place
-        ∙ sym (append_assoc first rest
-        (event_line (i + length (d ∷ es)) (at + length (texts (d ∷ es))) e))
+    ∙ ap (λ z. first ++ (rest ++ event_line z (next + length (texts es)) e)) number
+    ∙ ap (λ z. first ++ (rest ++ event_line (i + length (d ∷ es)) z e)) place
+    ∙ sym (append_assoc first rest
+    (event_line (i + length (d ∷ es)) (at + length (texts (d ∷ es))) e))
 
 -- ---- where a list stands
 
@@ -132,15 +132,15 @@ module _ (p q : Listed) (index : ℕ) (over : Bool) (l : Listing p q index over)
       → event_line index offset e ≡ event_line (length l.events) (behind l.events) e
   line-there e offset at =
       ap (λ z. event_line z offset e) l.index_is
-          ∙ ap (λ z. event_line (length l.events) z e) (at ∙ l.place)
+      ∙ ap (λ z. event_line (length l.events) z e) (at ∙ l.place)
 
   lines-then : (e : Event) (offset : ℕ) → offset ≡ q.log.unread.place
       → event_lines l.events ++ event_line index offset e ≡ event_lines (l.events ++ e ∷ [])
   lines-then e offset at =
       let number : length l.events ≡ 0 + length l.events = omega arith in
       ap (λ z. event_lines l.events ++ z) (line-there e offset at)
-          ∙ ap (λ z. event_lines l.events ++ event_line z (behind l.events) e) number
-          ∙ sym (lines-more l.events e 0 98)
+      ∙ ap (λ z. event_lines l.events ++ event_line z (behind l.events) e) number
+      ∙ sym (lines-more l.events e 0 98)
 
   pub listing-more : (e : Event) (offset : ℕ) (r : Reader) (taken : Option (List ℕ)) (faults : ℕ)
       → over ≡ false → Nexts q.log r (Ok (e, offset))

@@ -26,16 +26,19 @@ use Rattle.log_order.specs.declared.refusal.Found.TheVariants as found
 use Rattle.log_order.specs.declared.refusal.Refusal.{Refusal}
 use Rattle.log_order.specs.Order.{IsFirstWrong, IsWhole}
 use Rattle.log_order.proofs.Verdicts.{one-whole, whole-right, one-wrong}
-use Rattle.rrvm.specs.declared.difference.Difference.{Difference}
-use Rattle.rrvm.specs.declared.difference.Difference.TheVariants as difference
-use Rattle.rrvm.specs.declared.outcome.Outcome.{Outcome}
-use Rattle.rrvm.specs.declared.outcome.Outcome.TheVariants.{Printed, GuestEnded, IdleForEver, BudgetReached, BadWord, WordsMissing, CannotOpen, CannotRead, ConsoleUnreadable, ConsoleFailed, LogFailed, LogUnreadable, BadFirmware, RecordingStopped, HeaderRefused, LogRefused, ImagesDiffer, LogTooLong, QuietFailed, NoMemory}
-use Rattle.rrvm.specs.Ledgers.{CountsStood}
-use Rattle.rrvm.specs.Outcomes.{status_of}
-use Rattle.rrvm.specs.Replays.{HasHeader, IsBadHeader, word_difference, IsBadImage, Starts, IsDifferent, IsReplayed, IsRefusedLog, IsReplayedToLimit, IsTooLong, IsUndecided, IsWrongLog, IsReplayable, IsRefusable, read_of}
-use Rattle.rrvm.proofs.Headed.{one-header}
-use Rattle.rrvm.proofs.LogLimits.{all-read}
-use Rattle.rrvm.specs.Answers.{Cause, ReplayCause, Explained, IfBoth, ending_status}
+use Rattle.run_files.specs.declared.difference.Difference.{Difference}
+use Rattle.run_files.specs.declared.difference.Difference.TheVariants as difference
+use Rattle.commands.specs.declared.outcome.Outcome.{Outcome}
+use Rattle.commands.specs.declared.outcome.Outcome.TheVariants.{Printed, GuestEnded, IdleForEver, BudgetReached, BadWord, WordsMissing, CannotOpen, CannotRead, ConsoleUnreadable, ConsoleFailed, LogFailed, LogUnreadable, BadFirmware, RecordingStopped, HeaderRefused, LogRefused, ImagesDiffer, LogTooLong, QuietFailed, NoMemory}
+use Rattle.run_files.specs.Ledgers.{CountsStood}
+use Rattle.commands.specs.Outcomes.{status_of}
+use Rattle.run_files.specs.Images.{IsBadImage}
+use Rattle.run_files.specs.Headers.{HasHeader, IsBadHeader}
+use Rattle.commands.specs.Replays.{word_difference, Starts, IsDifferent, IsReplayed, IsRefusedLog, IsReplayedToLimit, IsTooLong, IsUndecided, IsWrongLog, IsReplayable, IsRefusable, read_of}
+use Rattle.run_files.proofs.Headed.{one-header}
+use Rattle.commands.proofs.LogLimits.{all-read}
+use Rattle.commands.specs.Causes.{Cause, ReplayCause, IfBoth}
+use Rattle.rrvm.specs.Answers.{Explained, ending_status}
 
 -- ---- a log and a file have one header, one image and one verdict
 

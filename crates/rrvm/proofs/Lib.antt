@@ -1,17 +1,4 @@
-pub mod ReadLemmas
-pub mod Opened
-pub mod Fresh
-pub mod Logs
-pub mod FileHeld
-pub mod Ran
-pub mod Played
-pub mod LogLimits
-pub mod Headed
-pub mod Replayed
 pub mod Telling
 pub mod Completing
 pub mod Statuses
 pub mod ReplayedAlike
-pub mod DemoTurns
-pub mod DemoRuns
-pub mod Counting

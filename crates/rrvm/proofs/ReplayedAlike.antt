@@ -16,15 +16,16 @@ use Rattle.log_order.specs.Order.{IsWhole}
 use Rattle.log_order.proofs.Recorded.{recorded-whole}
 use Rattle.log_order.proofs.Verdicts.{one-whole}
 use Rattle.board.specs.Reset.{start_of}
-use Rattle.rrvm.specs.declared.outcome.Outcome.{Outcome}
-use Rattle.rrvm.specs.declared.outcome.Outcome.TheVariants.{Printed, GuestEnded, IdleForEver, BudgetReached, BadWord, WordsMissing, CannotOpen, CannotRead, ConsoleUnreadable, ConsoleFailed, LogFailed, LogUnreadable, BadFirmware, RecordingStopped, HeaderRefused, LogRefused, ImagesDiffer, LogTooLong, QuietFailed, NoMemory}
-use Rattle.rrvm.specs.Outcomes.{status_of}
-use Rattle.rrvm.specs.Headers.{header_of}
-use Rattle.rrvm.specs.Recordings.{IsRecorded}
-use Rattle.rrvm.specs.Replays.{Starts, IsReplayed, IsReplayable, IsRefusedLog}
+use Rattle.commands.specs.declared.outcome.Outcome.{Outcome}
+use Rattle.commands.specs.declared.outcome.Outcome.TheVariants.{Printed, GuestEnded, IdleForEver, BudgetReached, BadWord, WordsMissing, CannotOpen, CannotRead, ConsoleUnreadable, ConsoleFailed, LogFailed, LogUnreadable, BadFirmware, RecordingStopped, HeaderRefused, LogRefused, ImagesDiffer, LogTooLong, QuietFailed, NoMemory}
+use Rattle.commands.specs.Outcomes.{status_of}
+use Rattle.run_files.specs.Headers.{header_of}
+use Rattle.commands.specs.Recordings.{IsRecorded}
+use Rattle.commands.specs.Replays.{Starts, IsReplayed, IsReplayable, IsRefusedLog}
 use Rattle.rrvm.specs.ReplayedAlike.{Agrees, TookAlike, IsReplayedAlike}
-use Rattle.rrvm.specs.Answers.{Cause, RecordCause, Explained, IsEnded, HasRun, ending_status}
-use Rattle.rrvm.proofs.Headed.{behind-text, begins}
+use Rattle.commands.specs.Causes.{Cause, RecordCause, IsEnded}
+use Rattle.rrvm.specs.Answers.{Explained, HasRun, ending_status}
+use Rattle.run_files.proofs.Headed.{behind-text, begins}
 use Rattle.rrvm.proofs.Completing.{same-start, whole-not-wrong, ending, some-ended, if-told}
 
 header-ranged : (r : Recording) (file : List ℕ) → IsInRange r → IsHeader (header_of r file)

@@ -8,13 +8,14 @@ use Rattle.std.specs.declared.option.Option.{Option}
 use Rattle.outside.specs.Ledger.{Ledger}
 use Rattle.command_line.specs.Words.{Recording, Reading, Records, Replays, Demonstrates, Help, Version, Bad, Early, demo_letters, demo_reading, quiet_reading}
 use Rattle.elf_load.specs.declared.error.LoadError.{LoadError}
-use Rattle.rrvm.specs.declared.outcome.Outcome.{Outcome}
-use Rattle.rrvm.specs.declared.outcome.Outcome.TheVariants.{Printed, GuestEnded, IdleForEver, BudgetReached, BadFirmware, RecordingStopped, HeaderRefused, LogRefused, NoMemory}
-use Rattle.rrvm.specs.Ledgers.{CountsKept}
-use Rattle.rrvm.specs.Faults.{KeptBut, NamesFault, NamesFirstFault, IsFaultless}
-use Rattle.rrvm.specs.Outcomes.{status_of}
-use Rattle.rrvm.specs.Firmwares.{IsBadFirmware}
-use Rattle.rrvm.specs.Answers.{Cause, RecordCause, Explained, IfRecords, Names, IsEnded, IsPrinted}
+use Rattle.commands.specs.declared.outcome.Outcome.{Outcome}
+use Rattle.commands.specs.declared.outcome.Outcome.TheVariants.{Printed, GuestEnded, IdleForEver, BudgetReached, BadFirmware, RecordingStopped, HeaderRefused, LogRefused, NoMemory}
+use Rattle.run_files.specs.Ledgers.{CountsKept}
+use Rattle.commands.specs.Faults.{KeptBut, NamesFault, NamesFirstFault, IsFaultless}
+use Rattle.commands.specs.Outcomes.{status_of}
+use Rattle.run_files.specs.Firmwares.{IsBadFirmware}
+use Rattle.commands.specs.Causes.{Cause, RecordCause, IfRecords, Names, IsEnded, IsPrinted}
+use Rattle.rrvm.specs.Answers.{Explained}
 
 ended-eight : (b : Bool) → ◌≡◌ {A = ℕ} (if b then 0 else 10) 8 → ⊥
 ended-eight true e = absurd cc

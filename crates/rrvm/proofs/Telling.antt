@@ -10,18 +10,20 @@ use Rattle.outside.specs.declared.roles.Role.TheVariants.{ConsoleOut, LogIn, Log
 use Rattle.command_line.specs.Words.{Recording, Replaying, Reading, Records, Replays, Demonstrates, Help, Version, Bad, Early}
 use Rattle.log_order.specs.declared.refusal.Refusal.{Refusal}
 use Rattle.rr_engine.specs.Input.{Extent, Entire, Part}
-use Rattle.rrvm.specs.declared.outcome.Outcome.{Outcome}
-use Rattle.rrvm.specs.declared.outcome.Outcome.TheVariants.{Printed, GuestEnded, IdleForEver, BudgetReached, BadWord, WordsMissing, CannotOpen, CannotRead, ConsoleUnreadable, ConsoleFailed, LogFailed, LogUnreadable, BadFirmware, RecordingStopped, HeaderRefused, LogRefused, ImagesDiffer, LogTooLong, QuietFailed, NoMemory}
+use Rattle.commands.specs.declared.outcome.Outcome.{Outcome}
+use Rattle.commands.specs.declared.outcome.Outcome.TheVariants.{Printed, GuestEnded, IdleForEver, BudgetReached, BadWord, WordsMissing, CannotOpen, CannotRead, ConsoleUnreadable, ConsoleFailed, LogFailed, LogUnreadable, BadFirmware, RecordingStopped, HeaderRefused, LogRefused, ImagesDiffer, LogTooLong, QuietFailed, NoMemory}
 use Rattle.outside.specs.Openings.{OpensFront}
 use Rattle.outside.specs.declared.openings.Opening.{Opening}
-use Rattle.rrvm.specs.Ledgers.{only, only_run, CountsKept, Untouched}
-use Rattle.rrvm.specs.Faults.{Fault, fault_of, KeptBut, KeptButLog, NamesFault, NamesFirstFault}
-use Rattle.rrvm.specs.Openings.{openings_of, opening_of, message_openings, FailsToOpen, OpensAsAsked}
-use Rattle.rrvm.specs.Outcomes.{status_of}
+use Rattle.run_files.specs.Ledgers.{only, only_run, CountsKept, Untouched}
+use Rattle.commands.specs.Faults.{Fault, fault_of, KeptBut, KeptButLog, NamesFault, NamesFirstFault}
+use Rattle.run_files.specs.Files.{FailsToOpen}
+use Rattle.commands.specs.Openings.{openings_of, opening_of, message_openings, OpensAsAsked}
+use Rattle.commands.specs.Outcomes.{status_of}
 use Rattle.rrvm.specs.Messages.{line_of}
-use Rattle.rrvm.specs.Recordings.{IsRecorded, IsRecordedToStop, IsLogged}
-use Rattle.rrvm.specs.Replays.{IsReplayed, IsRefusedLog, IsReplayedToLimit, IsShown}
-use Rattle.rrvm.specs.Answers.{Cause, RecordCause, ReplayCause, DemoCause, PrintCause, Explained, IfBoth, IfRecords, IfReplays, IfDemonstrates, IfRecording, Names, IsPrinted, IsPrintedFront}
+use Rattle.commands.specs.Recordings.{IsRecorded, IsRecordedToStop, IsLogged}
+use Rattle.commands.specs.Replays.{IsReplayed, IsRefusedLog, IsReplayedToLimit, IsShown}
+use Rattle.commands.specs.Causes.{Cause, RecordCause, ReplayCause, DemoCause, PrintCause, IfBoth, IfRecords, IfReplays, IfDemonstrates, IfRecording, Names, IsPrinted, IsPrintedFront}
+use Rattle.rrvm.specs.Answers.{Explained}
 
 -- the ledger after the messages were said
 abbrev said : Ledger → Ledger → Ledger

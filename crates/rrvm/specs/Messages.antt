@@ -6,11 +6,11 @@ use Rattle.outside.specs.declared.roles.Role.TheVariants.{Firmware}
 use Rattle.command_line.specs.Words.{Reading, Records, Replays}
 use Rattle.elf_load.specs.declared.error.LoadError.{LoadError}
 use Rattle.elf_load.specs.declared.error.LoadError.TheVariants as rule
-use Rattle.rrvm.specs.declared.difference.Difference.{Difference}
-use Rattle.rrvm.specs.declared.difference.Difference.TheVariants as difference
+use Rattle.run_files.specs.declared.difference.Difference.{Difference}
+use Rattle.run_files.specs.declared.difference.Difference.TheVariants as difference
 use Rattle.rrvm.specs.Texts.{refusal_line}
-use Rattle.rrvm.specs.declared.outcome.Outcome.{Outcome}
-use Rattle.rrvm.specs.declared.outcome.Outcome.TheVariants.{Printed, GuestEnded, IdleForEver, BudgetReached, BadWord, WordsMissing, CannotOpen, CannotRead, ConsoleUnreadable, ConsoleFailed, LogFailed, LogUnreadable, BadFirmware, RecordingStopped, HeaderRefused, LogRefused, ImagesDiffer, LogTooLong, QuietFailed, NoMemory}
+use Rattle.commands.specs.declared.outcome.Outcome.{Outcome}
+use Rattle.commands.specs.declared.outcome.Outcome.TheVariants.{Printed, GuestEnded, IdleForEver, BudgetReached, BadWord, WordsMissing, CannotOpen, CannotRead, ConsoleUnreadable, ConsoleFailed, LogFailed, LogUnreadable, BadFirmware, RecordingStopped, HeaderRefused, LogRefused, ImagesDiffer, LogTooLong, QuietFailed, NoMemory}
 
 -- the names that the words give
 abbrev pub bios_name : Reading → List ℕ

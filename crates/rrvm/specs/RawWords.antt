@@ -1,7 +1,7 @@
 -- Words of which one isn't UTF-8.
 use Rattle.std.specs.Prelude.{ℕ, List, [], ◌∷◌, ◌++◌, length}
 use Rattle.command_line.specs.Words.{Reading, Bad, Early, reading_of}
-use Rattle.rrvm.specs.declared.outcome.Outcome.TheVariants.{BadWord}
+use Rattle.commands.specs.declared.outcome.Outcome.TheVariants.{BadWord}
 use Rattle.rrvm.specs.Messages.{line_of}
 
 -- the number of the word that is called bad, else this one

@@ -6,8 +6,8 @@ use Rattle.outside.specs.Told.{Takes}
 use Rattle.outside.specs.declared.roles.Role.TheVariants.{ConsoleOut}
 use Rattle.command_line.specs.Words.{Recording, Replaying}
 use Rattle.log_order.specs.declared.refusal.Refusal.{Refusal}
-use Rattle.rrvm.specs.Headers.{header_of}
-use Rattle.rrvm.specs.Replays.{word_difference, IsReplayed, IsReplayable, IsRefusedLog}
+use Rattle.run_files.specs.Headers.{header_of}
+use Rattle.commands.specs.Replays.{word_difference, IsReplayed, IsReplayable, IsRefusedLog}
 
 -- the consoles of two runs took the same bytes
 abbrev pub TookAlike : Ledger → Ledger → Type 0

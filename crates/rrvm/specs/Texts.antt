@@ -1,8 +1,6 @@
--- The texts of events, of what is due, and of what is found in its place.
-use Rattle.std.specs.Prelude.{ℕ, Bool, true, false, List, ◌++◌, length, codes, if◌then◌else◌}
+-- The texts of what is due, and of what is found in its place.
+use Rattle.std.specs.Prelude.{ℕ, true, false, List, ◌++◌, codes}
 use Rattle.std.specs.Fmt.{decimal}
-use Rattle.event_log.specs.declared.event.Event.{Event}
-use Rattle.event_log.specs.declared.event.Event.TheVariants as event
 use Rattle.event_log.specs.declared.rule.Rule.{Rule}
 use Rattle.event_log.specs.declared.rule.Rule.TheVariants as rule
 use Rattle.board.specs.declared.due.Due.{Due}
@@ -10,27 +8,7 @@ use Rattle.board.specs.declared.due.Due.TheVariants as due
 use Rattle.log_order.specs.declared.refusal.Found.{Found}
 use Rattle.log_order.specs.declared.refusal.Found.TheVariants as found
 use Rattle.log_order.specs.declared.refusal.Refusal.{Refusal}
-
-abbrev pub checkpoint_text : Bool → List ℕ
-checkpoint_text idle = if idle then codes "CHECKPOINT idle" else codes "CHECKPOINT slice"
-
-abbrev pub block_text : ℕ → Bool → List ℕ
-block_text id ok = codes "BLOCK " ++ decimal id ++ (if ok then codes " ok" else codes " error")
-
-abbrev pub end_text : ℕ → ℕ → List ℕ
-end_text reason code = codes "END " ++ decimal reason ++ codes " " ++ decimal code
-
--- an event's name and its numbers; of bytes, how many
-abbrev pub event_text : Event → List ℕ
-event_text (event.Instruction count) = codes "INSTRUCTION " ++ decimal count
-event_text event.Interrupt = codes "INTERRUPT"
-event_text event.Exception = codes "EXCEPTION"
-event_text (event.CharRead bytes) = codes "CHAR_READ " ++ decimal (length bytes)
-event_text (event.Block id ok) = block_text id ok
-event_text (event.Net packet) = codes "NET " ++ decimal (length packet)
-event_text (event.Clock value) = codes "CLOCK " ++ decimal value
-event_text (event.Checkpoint idle) = checkpoint_text idle
-event_text (event.End reason code) = end_text reason code
+use Rattle.event_list.specs.Texts.{checkpoint_text, end_text, event_text}
 
 -- what is due, by the name of its event
 abbrev pub due_text : Due → List ℕ

@@ -4,22 +4,8 @@
 //! the host.
 #![tactic(auto)]
 
-mod demo;
-mod demo_clock;
-mod demo_text;
-mod difference;
-mod firmware;
-mod guests;
-mod images;
 mod message;
-mod outcome;
-mod printing;
-mod quiet;
 mod raw_word;
-mod read_all;
-mod recording;
-mod replaying;
-mod run;
 #[cfg(test)]
 mod tests;
 mod texts;

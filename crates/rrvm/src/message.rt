@@ -5,12 +5,12 @@ ghost use Rattle.std.specs.Fmt.{decimal};
 ghost use Rattle.command_line.specs.Line.{seen_line};
 ghost use Rattle.rrvm.specs.Messages.{bios_name, log_name, file_name, rule_name, difference_name, word_of, line_of};
 
-use crate::difference::Difference;
-use crate::outcome::Outcome;
 use crate::texts::refusal_line;
 use command_line::Line;
+use commands::Outcome;
 use elf_load::LoadError;
 use outside::Role;
+use run_files::Difference;
 use std::alloc::{AllocError, Global};
 
 fn bios<'a>(line: &Line<'a>) -> &'a str

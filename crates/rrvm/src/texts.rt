@@ -1,43 +1,14 @@
-//! The texts of events, of what is due, and of what is found in its place.
+//! The texts of what is due, and of what is found in its place.
 
 ghost use Rattle.std.specs.Prelude.{◌≡◌, ◌++◌, IfOk, string_bytes, codes};
 ghost use Rattle.std.specs.Fmt.{decimal};
-ghost use Rattle.rrvm.specs.Texts.{end_text, event_text, due_text, rule_text, found_text, refusal_line};
+ghost use Rattle.rrvm.specs.Texts.{due_text, rule_text, found_text, refusal_line};
 
 use board::Due;
-use event_log::{Event, Rule};
+use event_list::{end_text, event_text};
+use event_log::Rule;
 use log_order::{Found, Refusal};
 use std::alloc::{AllocError, Global};
-
-fn end_text(alloc: Global, reason: u8, code: u32) -> Result<String, AllocError>
-    ensures { IfOk result (λ s. string_bytes s ≡ end_text reason code) }
-{
-    format!(in alloc; "END {reason} {code}")
-}
-
-fn event_text(alloc: Global, event: &Event) -> Result<String, AllocError>
-    ensures { IfOk result (λ s. string_bytes s ≡ event_text event.now) }
-{
-    match event {
-        Event::Instruction(count) => format!(in alloc; "INSTRUCTION {count}"),
-        Event::Interrupt => String::from_str(alloc, "INTERRUPT"),
-        Event::Exception => String::from_str(alloc, "EXCEPTION"),
-        Event::CharRead(bytes) => {
-            let count = bytes.as_slice().len();
-            format!(in alloc; "CHAR_READ {count}")
-        }
-        Event::Block { id, ok: true } => format!(in alloc; "BLOCK {id} ok"),
-        Event::Block { id, ok: false } => format!(in alloc; "BLOCK {id} error"),
-        Event::Net(packet) => {
-            let count = packet.as_slice().len();
-            format!(in alloc; "NET {count}")
-        }
-        Event::Clock(value) => format!(in alloc; "CLOCK {value}"),
-        Event::Checkpoint { idle: true } => String::from_str(alloc, "CHECKPOINT idle"),
-        Event::Checkpoint { idle: false } => String::from_str(alloc, "CHECKPOINT slice"),
-        Event::End { reason, code } => end_text(alloc, *reason, *code),
-    }
-}
 
 fn due_text(alloc: Global, due: Due) -> Result<String, AllocError>
     ensures { IfOk result (λ s. string_bytes s ≡ due_text due) }

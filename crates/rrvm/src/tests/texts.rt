@@ -1,8 +1,8 @@
 //! The texts that stand alone, and words that aren't UTF-8, over a world in memory.
 
 use super::{status_of, words};
-use crate::printing::{HELP, VERSION};
 use crate::raw_word::rrvm_raw;
+use commands::{HELP, VERSION};
 use outside::{MemWorld, Role};
 use std::test::Fail;
 

@@ -19,7 +19,7 @@ loop-over-preserved g c =
     let line : c.as_bytes.result.now ≡ event_line c.loop-over.index c.in-Ok.offset c.in-Ok.event =
     search rules in
     let took : Takes (g.K.Sink.taken c.loop-over.out) (g.K.Sink.taken c.put_all.new.self)
-        c.as_bytes.result.now = search rules in
+    c.as_bytes.result.now = search rules in
     let kept : g.K.Sink.faults c.put_all.new.self ≡ g.K.Sink.faults c.loop-over.out =
     search rules in
     record {

@@ -1,0 +1,9 @@
+pub mod Openings
+pub mod Outcomes
+pub mod Faults
+pub mod Endings
+pub mod Recordings
+pub mod Asking
+pub mod Replays
+pub mod Playing
+pub mod Causes

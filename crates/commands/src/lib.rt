@@ -1,0 +1,16 @@
+//! What the program's commands do over a world of devices: record, replay, demonstrate, and print a
+//! text. Each opens what its words name, gives it back, and answers how it ended.
+#![tactic(auto)]
+
+mod devices;
+mod outcome;
+mod printing;
+mod quiet;
+mod recording;
+mod replaying;
+
+pub use outcome::Outcome;
+pub use printing::{HELP, PrintFault, VERSION, print};
+pub use quiet::demonstrate;
+pub use recording::run;
+pub use replaying::replay;

@@ -1,0 +1,2 @@
+pub mod DemoTurns
+pub mod DemoRuns

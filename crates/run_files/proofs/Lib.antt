@@ -1,0 +1,4 @@
+pub mod Roles
+pub mod ReadLemmas
+pub mod FileHeld
+pub mod Headed

@@ -1,0 +1,5 @@
+pub mod Ledgers
+pub mod Headers
+pub mod Files
+pub mod Firmwares
+pub mod Images
