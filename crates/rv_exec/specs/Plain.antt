@@ -1,5 +1,5 @@
 -- Rows that change no control register and read none.
-use Rattle.std.specs.Prelude.{Bool, true, false, ◌≡◌}
+use Rattle.std.specs.Prelude.{ℕ, Bool, true, false, ◌≡◌, ◌%◌, Option, Some, None}
 use Rattle.rv_decode.specs.declared.op.Op.{Op}
 use Rattle.rv_decode.specs.declared.op.Op.TheVariants.{Lui, Auipc, Jal, Jalr, Beq, Bne, Blt, Bge, Bltu, Bgeu, Lb, Lh, Lw, Lbu, Lhu, Sb, Sh, Sw, Addi, Slti, Sltiu, Xori, Ori, Andi, Slli, Srli, Srai, Add, Sub, Sll, Slt, Sltu, Xor, Srl, Sra, Or, And, Mul, Mulh, Mulhsu, Mulhu, Div, Divu, Rem, Remu, Fence, FenceI, LrW, ScW, AmoaddW, AmoswapW, AmoxorW, AmoorW, AmoandW, AmominW, AmomaxW, AmominuW, AmomaxuW}
 use Rattle.rv_exec.specs.declared.done.Done.TheVariants.{Retired}
@@ -68,11 +68,19 @@ is_plain AmominuW = true
 is_plain AmomaxuW = true
 is_plain op = false
 
--- the instruction retired to this, or nothing changed
-abbrev pub Retires : {B : Type 0} → Outcome B → Hart → B → Bool → Hart → B → Type 0
-Retires o h s true h' s' = Reaches o (Retired false) h' s'
-Retires o h s false h' s' = (h' ≡ h) × (s' ≡ s)
+-- the hart with its pc elsewhere
+abbrev pub at_pc : Hart → ℕ → Hart
+at_pc h pc = record h { pc = pc }
 
-abbrev pub RetiresLocal : Local → Hart → Bool → Hart → Type 0
-RetiresLocal l h true h' = (l.done ≡ Retired false) × (l.hart ≡ h')
-RetiresLocal l h false h' = h' ≡ h
+-- an address of an instruction
+abbrev pub IsAligned : ℕ → Type 0
+IsAligned pc = pc % 4 ≡ 0
+
+-- the instruction retired, and its hart goes on at that pc, or nothing changed
+abbrev pub GoesOn : {B : Type 0} → Outcome B → Hart → B → Option ℕ → Hart → B → Type 0
+GoesOn o h s (Some next) h' s' = Reaches o (Retired false) (at_pc h' next) s'
+GoesOn o h s None h' s' = (h' ≡ h) × (s' ≡ s)
+
+abbrev pub GoesOnLocal : Local → Hart → Option ℕ → Hart → Type 0
+GoesOnLocal l h (Some next) h' = (l.done ≡ Retired false) × (l.hart ≡ at_pc h' next)
+GoesOnLocal l h None h' = h' ≡ h
