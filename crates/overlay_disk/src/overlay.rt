@@ -2,10 +2,10 @@
 
 ghost use Rattle.std.specs.Prelude.{◌≡◌, ℕ, ◌+◌, ◌*◌, ◌/◌, ◌%◌, ◌<◌, ◌≤◌, ◌^◌, length, slice_index, MatchResult, IfOk, OnOk, OnErr, []};
 ghost use Rattle.overlay_disk.specs.Sectors.{Disk, sector_of, over, Writes, WritesIn};
-ghost use Rattle.overlay_disk.specs.Trees.{sector_in};
+ghost use Rattle.overlay_disk.specs.Trees.{entries_of, sector_in};
 
 use crate::NoMemory;
-use crate::tree::{Node, Sector, find, shared, with};
+use crate::tree::{Node, Sector, find, put, shared};
 use ram_pages::little::write_bytes;
 use std::alloc::Global;
 use std::marker::Model;
@@ -64,7 +64,7 @@ fn sector_of_bytes(alloc: Global, bytes: &[u8]) -> Result<Rc<Sector>, NoMemory>
 }
 
 /// A tree with these bytes in whole sectors. The one that is passed stays as it is.
-fn write_sectors(
+fn with_sectors(
     alloc: Global,
     written: &Option<Rc<Node>>,
     sector: u64,
@@ -78,9 +78,31 @@ fn write_sectors(
     let mut after = shared(written)?;
     for k in 0..bytes.len() / 512 {
         let fresh = sector_of_bytes(alloc, &bytes[512 * k..512 * k + 512])?;
-        after = with(alloc, &after, sector + k as u64, fresh)?;
+        put(alloc, &mut after, sector + k as u64, fresh)?;
     }
     Ok(after)
+}
+
+/// Writes bytes over whole sectors of a tree: one sector in place, and several on a share of the
+/// tree, so that a refusal among them leaves all as it was.
+fn write_sectors(
+    alloc: Global,
+    written: &mut Option<Rc<Node>>,
+    sector: u64,
+    bytes: &[u8],
+) -> Result<(), NoMemory>
+    requires whole { length bytes.now % 512 ≡ 0 }
+    requires fits { sector + length bytes.now / 512 < 2 ^ 64 }
+    ensures ok { OnOk result
+        (WritesIn written.old written.new sector (length bytes.now / 512) bytes.now) }
+    ensures err { OnErr result (entries_of written.new ≡ entries_of written.old) }
+{
+    if bytes.len() == 512 {
+        let fresh = sector_of_bytes(alloc, bytes)?;
+        return put(alloc, written, sector, fresh);
+    }
+    *written = with_sectors(alloc, written, sector, bytes)?;
+    Ok(())
 }
 
 impl Overlay {
@@ -127,11 +149,8 @@ impl Overlay {
         if sector > sectors || count > sectors - sector {
             return Err(OverlayError::PastEnd);
         }
-        match write_sectors(alloc, &self.written, sector, bytes) {
-            Ok(written) => {
-                self.written = written;
-                Ok(())
-            }
+        match write_sectors(alloc, &mut self.written, sector, bytes) {
+            Ok(()) => Ok(()),
             Err(_) => Err(OverlayError::NoMemory),
         }
     }

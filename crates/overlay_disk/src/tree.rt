@@ -2,13 +2,13 @@
 //! the odd branch, and sector 2m + 2 at m of the even branch, so a sector lies no deeper than its
 //! number has bits, and a tree with one more sector has new nodes on the way to it alone.
 
-ghost use Rattle.std.specs.Prelude.{◌≡◌, ◌==◌, if◌then◌else◌, ℕ, IfOk};
+ghost use Rattle.std.specs.Prelude.{◌≡◌, ◌==◌, if◌then◌else◌, ℕ, IfOk, OnOk, OnErr};
 ghost use Rattle.std.specs.Option.{option_map};
 ghost use Rattle.std.specs.declared.option.Option.TheVariants.{Some};
 ghost use Rattle.overlay_disk.specs.Trees.{at_root, node_entries, entries_of, sector_in};
 
 use crate::NoMemory;
-use std::alloc::Global;
+use std::alloc::{AllocError, Global};
 use std::rc::Rc;
 
 /// The bytes of a sector.
@@ -79,26 +79,46 @@ fn rooted(alloc: Global, node: Node) -> Result<Option<Rc<Node>>, NoMemory>
     Ok(Some(tree))
 }
 
-/// A tree with a sector in place of what stood there. The one that is passed stays as it is.
-pub(crate) fn with(
+/// Gives a tree a root that it owns alone, which shows no sector more. What others own stays.
+fn own_root(alloc: Global, tree: &mut Option<Rc<Node>>) -> Result<(), NoMemory>
+    ensures { entries_of tree.new ≡ entries_of tree.old }
+{
+    let alone = match tree {
+        Some(node) => Rc::strong_count(node) == 1,
+        None => false,
+    };
+    if !alone {
+        let node = parts(tree)?;
+        *tree = rooted(alloc, node)?;
+    }
+    Ok(())
+}
+
+/// Puts a sector in place of what stood there. A node that others own too is copied first.
+pub(crate) fn put(
     alloc: Global,
-    tree: &Option<Rc<Node>>,
+    tree: &mut Option<Rc<Node>>,
     sector: u64,
     fresh: Rc<Sector>,
-) -> Result<Option<Rc<Node>>, NoMemory>
-    ensures { IfOk result (λ after. (k : ℕ) → sector_in after k
-        ≡ (if k == sector then Some fresh.value.bytes else sector_in tree.now k)) }
+) -> Result<(), NoMemory>
+    ensures ok { OnOk result ((k : ℕ) → sector_in tree.new k
+        ≡ (if k == sector then Some fresh.value.bytes else sector_in tree.old k)) }
+    ensures err { OnErr result (entries_of tree.new ≡ entries_of tree.old) }
 {
-    let Node { here, odd, even } = parts(tree)?;
+    own_root(alloc, tree)?;
+    let Some(root) = tree else {
+        return Err(AllocError);
+    };
+    let Some(node) = Rc::get_mut(root) else {
+        return Err(AllocError);
+    };
     if sector == 0 {
-        let here = Some(fresh);
-        rooted(alloc, Node { here, odd, even })
+        node.here = Some(fresh);
+        Ok(())
     } else if sector % 2 == 1 {
-        let odd = with(alloc, &odd, (sector - 1) / 2, fresh)?;
-        rooted(alloc, Node { here, odd, even })
+        put(alloc, &mut node.odd, (sector - 1) / 2, fresh)
     } else {
-        let even = with(alloc, &even, (sector - 1) / 2, fresh)?;
-        rooted(alloc, Node { here, odd, even })
+        put(alloc, &mut node.even, (sector - 1) / 2, fresh)
     }
 }
 

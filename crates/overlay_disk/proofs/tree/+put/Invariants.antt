@@ -1,0 +1,4 @@
+use Rattle.overlay_disk.proofs.tree.+put.Given as goal
+
+abbrev pub decreases-put : goal.decreases-put
+decreases-put l = l.sector
