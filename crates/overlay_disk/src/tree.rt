@@ -1,6 +1,8 @@
 //! Written sectors in a tree that copies share. Sector 0 stands at the root, sector 2m + 1 at m of
 //! the odd branch, and sector 2m + 2 at m of the even branch, so a sector lies no deeper than its
-//! number has bits, and a tree with one more sector has new nodes on the way to it alone.
+//! number has bits. A write makes the nodes on the way to its sector that are missing, and copies
+//! those that another tree owns too. Where it is refused midway, nodes without a sector may stay,
+//! which show nothing.
 
 ghost use Rattle.std.specs.Prelude.{◌≡◌, ◌==◌, if◌then◌else◌, ℕ, IfOk, OnOk, OnErr};
 ghost use Rattle.std.specs.Option.{option_map};
