@@ -1,11 +1,11 @@
 -- Which words an allowed line goes on with.
-use Rattle.std.proofs.Common.{◌≡◌, ℕ, ◌+◌, Bool, true, false, List, [], ◌∷◌, ◌++◌, Option, Some, None, refl, sym, ap, ◌∙◌, subst, codes, ◌⊎◌, inl, inr, ◌&&◌, if◌then◌else◌}
+use Rattle.std.proofs.Common.{◌≡◌, ℕ, ◌+◌, Bool, true, false, List, [], ◌∷◌, ◌++◌, Option, Some, None, refl, sym, ap, subst, codes, ◌⊎◌, inl, inr, ◌&&◌, if◌then◌else◌}
 use Rattle.std.specs.Prelude.{⊤}
 use Rattle.std.specs.Str.{bytes_eq}
 use Rattle.std.proofs.lemmas.Bool.{and_parts}
 use Rattle.std.proofs.lemmas.Slice.Eq.{bytes_eq-Decides}
 use Rattle.command_line.specs.Icount.{Icount, RecordInto, ReplayFrom}
-use Rattle.command_line.specs.Words.{Given, given_none, Key, IcountKey, BiosKey, RamKey, BudgetKey, SliceKey, is_open, with_value, with_option, key_of, Reading, Records, Replays, Bad, Early, Step, reading, follow, pair_step, value_step, last_word, at_end}
+use Rattle.command_line.specs.Words.{Given, Key, IcountKey, BiosKey, RamKey, BudgetKey, SliceKey, is_open, with_value, with_option, key_of, Reading, Records, Replays, Bad, Early, Step, reading, follow, pair_step, value_step, last_word, at_end}
 use Rattle.command_line.specs.Grammar.{Choice, key_word, line_words}
 use Rattle.command_line.proofs.StepLemmas.{Together, together_some, without_replay, option_together, Steps}
 
@@ -38,22 +38,6 @@ key_of-word g BiosKey o = rw o refl
 key_of-word g RamKey o = rw o refl
 key_of-word g BudgetKey o = rw o refl
 key_of-word g SliceKey o = rw o refl
-
-key_none : (g : Given) (w : List ℕ) (key : Key) → key_of g w ≡ None → is_open g key ≡ true → w ≡ key_word key → ⊥
-key_none g w key e o p = let h : Some key ≡ None = sym (key_of-word g key o) ∙ sym (ap (key_of g) p) ∙ e in cc
-
-pub none_given : (key : Key) → is_open given_none key ≡ true
-none_given IcountKey = refl
-none_given BiosKey = refl
-none_given RamKey = refl
-none_given BudgetKey = refl
-none_given SliceKey = refl
-
-key_word_same : (k l : Key) → key_word k ≡ key_word l → k ≡ l
-key_word_same k l e =
-    let a : key_of given_none (key_word k) ≡ Some k = key_of-word given_none k (none_given k) in
-    let b : key_of given_none (key_word l) ≡ Some l = key_of-word given_none l (none_given l) in
-    let h : Some k ≡ Some l = sym a ∙ ap (key_of given_none) e ∙ b in cc
 
 -- Lines that go on.
 
@@ -137,33 +121,6 @@ continues-key g key o t =
     let v = value_for g key o t in
     let h = continues-pair g v.1 key v.0 [] o v.2 (continues-nil v.1 v.3) in
     record { rest = v.0 ∷ h.rest; choices = h.choices; last = h.last; meaning = h.meaning; spelled = h.spelled; steps = h.steps; asks = h.asks; request = h.request }
-
--- an allowed line begins with a key that is open
-pub begins : (g : Given) (w : List ℕ) (words : List (List ℕ)) (os : List Choice) (h : Given) → line_words os ≡ w ∷ words → Steps g os h → (key : Key) × Named g w key
-begins g w words [] h e a = absurd (cc)
-begins g w words (o ∷ os) h e a = let k : key_word o.key ≡ w = cc in (o.key, (sym k, a.1))
-
-pub no_key : (g : Given) (w : List ℕ) (words : List (List ℕ)) → key_of g w ≡ None → Continues g (w ∷ words) → ⊥
-no_key g w words e h = let b = begins g w (words ++ h.rest) h.choices h.last h.spelled h.steps in key_none g w b.0 e b.1.1 b.1.0
-
-pair_begins : (g : Given) (w v : List ℕ) (words : List (List ℕ)) (os : List Choice) (h : Given) → line_words os ≡ w ∷ v ∷ words → Steps g os h → (key : Key) → w ≡ key_word key
-    → (m : Given) × (rest : List Choice) × (with_option g key v ≡ Some m) × (line_words rest ≡ words) × Steps m rest h
-pair_begins g w v words [] h e a key p = absurd (cc)
-pair_begins g w v words (o ∷ os) h e a key p =
-    let k : key ≡ o.key = key_word_same key o.key (cc) in
-    let ev : o.value ≡ v = cc in
-    let er : line_words os ≡ words = cc in
-    (a.0, os, subst (λ x. with_option g x v ≡ Some a.0) (sym k) (subst (λ x. with_option g o.key x ≡ Some a.0) ev a.2), er, a.3)
-
-pub no_value : (g : Given) (w v : List ℕ) (words : List (List ℕ)) (key : Key) → w ≡ key_word key → with_option g key v ≡ None → Continues g (w ∷ v ∷ words) → ⊥
-no_value g w v words key p e h = let b = pair_begins g w v (words ++ h.rest) h.choices h.last h.spelled h.steps key p in let k = b.2 in cc
-
-pub continues-back : (g m : Given) (w v : List ℕ) (words : List (List ℕ)) (key : Key) → w ≡ key_word key → with_option g key v ≡ Some m → Continues g (w ∷ v ∷ words) → Continues m words
-continues-back g m w v words key p e h =
-    let b = pair_begins g w v (words ++ h.rest) h.choices h.last h.spelled h.steps key p in
-    let s : Some b.0 ≡ Some m = sym b.2 ∙ e in
-    let same : b.0 ≡ m = cc in
-    record { rest = h.rest; choices = b.1; last = h.last; meaning = h.meaning; spelled = b.3; steps = subst (λ x. Steps x b.1 h.last) same b.4; asks = h.asks; request = h.request }
 
 -- What words are read as.
 

@@ -4,5 +4,7 @@ pub mod WordLemmas
 pub mod StepLemmas
 pub mod GrammarLemmas
 pub mod IcountLemmas
+pub mod CommandLemmas
 pub mod LawLemmas
+pub mod FirstLemmas
 pub mod RangeLemmas

@@ -1,14 +1,16 @@
--- What words ask for lies in the ranges of the numbers.
-use Rattle.std.proofs.Common.{◌≡◌, ℕ, ◌≤◌, ◌^◌, List, [], ◌∷◌, Option, Some, None, sym, ap, ◌∙◌, subst, arith, inl, inr}
+-- What words ask for lies in the ranges of the numbers, and a word that is called bad is there.
+use Rattle.std.proofs.Common.{◌≡◌, ℕ, ◌≤◌, ◌^◌, List, [], ◌∷◌, Option, Some, None, length, map, refl, sym, subst, arith, ◌⊎◌, inl, inr}
+use Rattle.std.proofs.lemmas.List.{length-map}
 use Rattle.std.specs.Prelude.{IfSome, unwrap_or}
 use Rattle.command_line.specs.Number.{number_in}
 use Rattle.command_line.specs.Icount.{Icount, RecordInto, ReplayFrom, name_of, icount_of}
-use Rattle.command_line.specs.Words.{Given, given_none, Key, IcountKey, BiosKey, RamKey, BudgetKey, SliceKey, with_value, Reading, Records, Replays, Demonstrates, Help, Version, Bad, Early, request, reading, IsBadLine, IsLineInRange}
+use Rattle.command_line.specs.Words.{Given, given_none, Key, IcountKey, BiosKey, RamKey, BudgetKey, SliceKey, with_value, Reading, Records, Replays, Demonstrates, Bad, request, command_or, reading_of, quiet_reading, IsBadLine, NamesWord, IsLineInRange}
 use Rattle.command_line.specs.Grammar.{Choice, Adds, Asks, IsLine, shift_of}
 use Rattle.command_line.proofs.NumberLemmas.{number-range}
 use Rattle.command_line.proofs.StepLemmas.{mapped}
 use Rattle.command_line.proofs.IcountLemmas.{icount_sound}
-use Rattle.command_line.proofs.LawLemmas.{options_sound}
+use Rattle.command_line.proofs.CommandLemmas.{Means, names_word, command_case, command_word_means}
+use Rattle.command_line.proofs.LawLemmas.{line_means_so, good_line, line_sound, missing}
 
 record InRange (g : Given) : Type 0 where
   pub icount : IfSome g.icount (λ i. IfSome (shift_of i) (λ n. n ≤ 10))
@@ -59,27 +61,42 @@ asks_range words m h =
     let last = choices_range h.choices given_none h.last (record { icount = tt; ram_mib = tt; budget = tt; slice = tt }) h.adds in
     subst IsLineInRange h.asks (ended_range h.last h.last.icount h.last.bios last last.icount)
 
-line_range : (words : List (List ℕ)) (m : Reading) → IsLine words m → IsLineInRange m
-line_range words (Records r) h = asks_range words (Records r) h
-line_range words (Replays r) h = asks_range words (Replays r) h
-line_range words (Demonstrates n) h = (h.1, h.2)
-line_range words Help h = tt
-line_range words Version h = tt
-line_range words (Bad k) h = tt
-line_range words Early h = tt
+good_range : (words : List (List ℕ)) (m : Reading) → IsBadLine m ⊎ IsLine words m → IsLineInRange m
+good_range words (Records r) (inl b) = absurd b
+good_range words (Records r) (inr h) = asks_range words (Records r) h
+good_range words (Replays r) (inl b) = absurd b
+good_range words (Replays r) (inr h) = asks_range words (Replays r) h
+good_range words (Demonstrates n) (inl b) = absurd b
+good_range words (Demonstrates n) (inr h) = (h.1, h.2)
+good_range words other h = tt
 
-bad_range : (m : Reading) → IsBadLine m → IsLineInRange m
-bad_range (Records r) h = absurd h
-bad_range (Replays r) h = absurd h
-bad_range (Demonstrates n) h = absurd h
-bad_range Help h = tt
-bad_range Version h = tt
-bad_range (Bad k) h = tt
-bad_range Early h = tt
+-- what a line is read as is in range
+pub line_range : (words : List (List ℕ)) (m : Reading) → m ≡ reading_of words → IsLineInRange m
+line_range words m e = subst IsLineInRange (sym e) (good_range words (reading_of words) (line_sound words))
 
--- what options are read as is in range
-pub options_range : (g : Given) (words : List (List ℕ)) (m : Reading) → g ≡ given_none → m ≡ reading g 0 words → IsLineInRange m
-options_range g words m n e =
-    let line : IsLineInRange (reading given_none 0 words) =
-    elim (options_sound words) [ inl bad ↦ bad_range (reading given_none 0 words) bad | inr line ↦ line_range words (reading given_none 0 words) line ] in
-    subst IsLineInRange (ap (λ x. reading x 0 words) (sym n) ∙ sym e) line
+-- Words that are called bad.
+
+means_names : {A : Type 0} (f : A → List ℕ) (x : A) (xs : List A) (reads : List (List ℕ) → Reading) (r m : Reading) → Means (f x) reads (map f xs) r → m ≡ r → NamesWord m (length (x ∷ xs))
+means_names f x xs reads r m h e =
+    subst (λ n. NamesWord m n) (length-map (x ∷ xs) f) (subst (λ q. NamesWord q (length (map f (x ∷ xs)))) (sym e) (names_word (f x) reads (map f xs) r h))
+
+-- a word of a line that is called bad is one of its words
+pub line_names : {A : Type 0} (f : A → List ℕ) (xs : List A) (m : Reading) → m ≡ reading_of (map f xs) → NamesWord m (length xs)
+line_names f [] m e = subst (λ q. NamesWord q 0) (sym e) tt
+line_names f (x ∷ xs) m e = means_names f x xs (λ vs. reading_of (f x ∷ vs)) (reading_of (f x ∷ map f xs)) m (line_means_so (f x) (map f xs)) e
+
+-- The words of a quiet command.
+
+quiet_means : (w : List ℕ) (ws : List (List ℕ)) → Means w (λ vs. quiet_reading (w ∷ vs)) ws (quiet_reading (w ∷ ws))
+quiet_means w ws =
+    command_case w (λ o. Means w (λ vs. command_or o vs (Bad 0)) ws (command_or o ws (Bad 0))) (λ c p. command_word_means w c p ws)
+    (record { within = omega arith; before = missing [] refl; stays = λ rest. refl })
+
+pub quiet_range : (words : List (List ℕ)) (m : Reading) → m ≡ quiet_reading words → IsLineInRange m
+quiet_range [] m e = subst IsLineInRange (sym e) tt
+quiet_range (w ∷ ws) m e =
+    subst IsLineInRange (sym e) (good_range (w ∷ ws) (quiet_reading (w ∷ ws)) (good_line w (λ vs. quiet_reading (w ∷ vs)) ws (quiet_reading (w ∷ ws)) (quiet_means w ws)))
+
+pub quiet_names : {A : Type 0} (f : A → List ℕ) (xs : List A) (m : Reading) → m ≡ quiet_reading (map f xs) → NamesWord m (length xs)
+quiet_names f [] m e = subst (λ q. NamesWord q 0) (sym e) tt
+quiet_names f (x ∷ xs) m e = means_names f x xs (λ vs. quiet_reading (f x ∷ vs)) (quiet_reading (f x ∷ map f xs)) m (quiet_means (f x) (map f xs)) e

@@ -4,7 +4,7 @@ use Rattle.std.specs.declared.option.Option.{Option}
 use Rattle.std.specs.Fmt.{decimal}
 use Rattle.std.specs.List.{join_with_byte}
 use Rattle.command_line.specs.Icount.{Icount, RecordInto, ReplayFrom}
-use Rattle.command_line.specs.Words.{Given, given_none, Key, IcountKey, BiosKey, RamKey, BudgetKey, SliceKey, go_together, with_value, at_end, Reading, Records, Replays, Demonstrates, Help, Version, Bad, Early}
+use Rattle.command_line.specs.Words.{Given, given_none, Key, IcountKey, BiosKey, RamKey, BudgetKey, SliceKey, go_together, with_value, at_end, Run, Reading, Records, Replays, Debugs, Checks, Lists, Demonstrates, Help, Version, Bad, Early}
 
 -- the shift, which a replay may leave out
 abbrev pub shift_of : Icount → Option ℕ
@@ -86,10 +86,19 @@ IsHelp word =
 abbrev pub IsVersion : List ℕ → Type 0
 IsVersion word = (word ≡ codes "--version") ⊎ (word ≡ codes "-version")
 
+-- the words are this command, a log's name, and the firmware's behind `-bios`
+abbrev pub IsRunLine : List (List ℕ) → List ℕ → Run → Type 0
+IsRunLine words command r =
+    (words ≡ command ∷ r.log ∷ codes "-bios" ∷ r.bios ∷ [])
+    × (0 < length r.log) × (0 < length r.bios)
+
 -- the words are an allowed line with this meaning
 abbrev pub IsLine : List (List ℕ) → Reading → Type 0
 IsLine words (Records r) = Asks given_none words (Records r)
 IsLine words (Replays r) = Asks given_none words (Replays r)
+IsLine words (Debugs r) = IsRunLine words (codes "debug") r
+IsLine words (Checks r) = IsRunLine words (codes "check") r
+IsLine words (Lists log) = (words ≡ codes "events" ∷ log ∷ []) × (0 < length log)
 IsLine words (Demonstrates n) = (words ≡ codes "demo" ∷ decimal n ∷ []) × (1 ≤ n) × (n ≤ 2000)
 IsLine words Help = (word : List ℕ) × (words ≡ word ∷ []) × IsHelp word
 IsLine words Version = (word : List ℕ) × (words ≡ word ∷ []) × IsVersion word

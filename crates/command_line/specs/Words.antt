@@ -1,6 +1,6 @@
--- The words of the command line: options in any order, each at most once, one word alone, or
--- a demonstration.
-use Rattle.std.specs.Prelude.{ℕ, ◌+◌, ◌<◌, ◌≤◌, ◌^◌, ◌&&◌, ◌||◌, Bool, true, false, not, List, [], ◌∷◌, Some, None, IfSome, codes, is_none, if◌then◌else◌, option_map, option_and_then, unwrap_or, ⊤}
+-- The words of the command line: options in any order, each at most once, one word alone, or a
+-- quiet command with its own words.
+use Rattle.std.specs.Prelude.{ℕ, ◌+◌, ◌<◌, ◌≤◌, ◌^◌, ◌&&◌, ◌||◌, Bool, true, false, not, List, [], ◌∷◌, Some, None, IfSome, codes, is_none, if◌then◌else◌, option_map, option_and_then, unwrap_or, Result, Ok, Err, ⊤}
 use Rattle.std.specs.declared.option.Option.{Option}
 use Rattle.std.specs.Str.{bytes_eq}
 use Rattle.command_line.specs.Number.{number_in}
@@ -22,10 +22,18 @@ pub record Replaying : Type 0 where
   pub log : List ℕ
   pub bios : List ℕ
 
+-- a recorded run: its log, and the firmware that the log names
+pub record Run : Type 0 where
+  pub log : List ℕ
+  pub bios : List ℕ
+
 -- what words are: a request, or word number n is bad, or they end early
 pub data Reading : Type 0 where
   Records : Recording → Reading
   Replays : Replaying → Reading
+  Debugs : Run → Reading
+  Checks : Run → Reading
+  Lists : List ℕ → Reading
   Demonstrates : ℕ → Reading
   Help : Reading
   Version : Reading
@@ -161,6 +169,74 @@ abbrev pub demo_reading : List (List ℕ) → Reading
 demo_reading [] = Early
 demo_reading (word ∷ rest) = demo_letters (number_in 1 2000 word) rest
 
+-- the name of the log stands alone
+abbrev pub listed_log : Option (List ℕ) → List (List ℕ) → Reading
+listed_log None rest = Bad 1
+listed_log (Some log) [] = Lists log
+listed_log (Some log) (word ∷ rest) = Bad 2
+
+-- what the words after `events` are: a log's name, and no more words
+abbrev pub events_reading : List (List ℕ) → Reading
+events_reading [] = Early
+events_reading (word ∷ rest) = listed_log (name_of word) rest
+
+-- the name of the firmware stands last
+abbrev pub run_bios : List ℕ → Option (List ℕ) → List (List ℕ) → Result Run Reading
+run_bios log None rest = Err (Bad 3)
+run_bios log (Some bios) [] = Ok (record { log = log; bios = bios })
+run_bios log (Some bios) (word ∷ rest) = Err (Bad 4)
+
+abbrev pub after_bios : List ℕ → List (List ℕ) → Result Run Reading
+after_bios log [] = Err Early
+after_bios log (word ∷ rest) = run_bios log (name_of word) rest
+
+-- after the log comes `-bios`
+abbrev pub run_option : List ℕ → List (List ℕ) → Result Run Reading
+run_option log [] = Err Early
+run_option log (word ∷ rest) =
+    if bytes_eq word (codes "-bios") then after_bios log rest else Err (Bad 2)
+
+abbrev pub run_log : Option (List ℕ) → List (List ℕ) → Result Run Reading
+run_log None rest = Err (Bad 1)
+run_log (Some log) rest = run_option log rest
+
+-- a log's name, and the firmware's behind `-bios`; or what the words are
+abbrev pub run_words : List (List ℕ) → Result Run Reading
+run_words [] = Err Early
+run_words (word ∷ rest) = run_log (name_of word) rest
+
+-- what the words after `debug` and `check` are
+abbrev pub run_reading : (Run → Reading) → Result Run Reading → Reading
+run_reading asks (Ok run) = asks run
+run_reading asks (Err other) = other
+
+-- the quiet commands
+pub data Command : Type 0 where
+  DebugCommand : Command
+  CheckCommand : Command
+  EventsCommand : Command
+  DemoCommand : Command
+
+-- the command that a word names
+abbrev pub command_of : List ℕ → Option Command
+command_of word =
+    if bytes_eq word (codes "debug") then Some DebugCommand else
+    if bytes_eq word (codes "check") then Some CheckCommand else
+    if bytes_eq word (codes "events") then Some EventsCommand else
+    if bytes_eq word (codes "demo") then Some DemoCommand else None
+
+-- what the words after a command are
+abbrev pub command_reading : Command → List (List ℕ) → Reading
+command_reading DebugCommand rest = run_reading Debugs (run_words rest)
+command_reading CheckCommand rest = run_reading Checks (run_words rest)
+command_reading EventsCommand rest = events_reading rest
+command_reading DemoCommand rest = demo_reading rest
+
+-- a command's words, or else these
+abbrev pub command_or : Option Command → List (List ℕ) → Reading → Reading
+command_or (Some command) rest other = command_reading command rest
+command_or None rest other = other
+
 -- the words that ask for the help, and for the version
 abbrev pub is_help : List ℕ → Bool
 is_help word = bytes_eq word (codes "--help")
@@ -175,18 +251,20 @@ reading_of [] = Early
 reading_of (word ∷ rest) =
     if is_help word then alone Help rest else
     if is_version word then alone Version rest else
-    if bytes_eq word (codes "demo") then demo_reading rest else
-    reading given_none 0 (word ∷ rest)
+    command_or (command_of word) rest (reading given_none 0 (word ∷ rest))
 
--- what the words of a quiet command are, whose first word is `demo`: any other first word is bad
+-- what the words of a quiet command are: any other first word is bad
 abbrev pub quiet_reading : List (List ℕ) → Reading
 quiet_reading [] = Early
-quiet_reading (word ∷ rest) = if bytes_eq word (codes "demo") then demo_reading rest else Bad 0
+quiet_reading (word ∷ rest) = command_or (command_of word) rest (Bad 0)
 
 -- the words leave the grammar
 abbrev pub IsBadLine : Reading → Type 0
 IsBadLine (Records r) = ⊥
 IsBadLine (Replays r) = ⊥
+IsBadLine (Debugs r) = ⊥
+IsBadLine (Checks r) = ⊥
+IsBadLine (Lists log) = ⊥
 IsBadLine (Demonstrates n) = ⊥
 IsBadLine Help = ⊥
 IsBadLine Version = ⊥

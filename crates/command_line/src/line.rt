@@ -1,14 +1,11 @@
 //! What the words of a command line are.
 ghost use Rattle.std.specs.Prelude.{◌≡◌, ◌+◌, ◌<◌, ◌^◌, length, map, string_bytes};
 ghost use Rattle.command_line.specs.Number.{number_in};
-ghost use Rattle.command_line.specs.Words.{reading, alone, demo_reading, NamesWord, IsLineInRange};
+ghost use Rattle.command_line.specs.Words.{reading, alone, NamesWord, IsLineInRange};
 ghost use Rattle.command_line.specs.Line.{seen_line, seen_given, line_in, quiet_in};
 
-use crate::number::number;
+use crate::commands::read_command;
 use crate::options::Options;
-
-// A demonstration prints at most so many letters.
-const LETTERS_MAX: u64 = 2000;
 
 /// What words ask to record.
 #[derive(Clone, Copy, Debug, PartialEq, Eq)]
@@ -40,11 +37,26 @@ pub struct ReplayWords<'a> {
     pub bios: &'a str,
 }
 
+/// A recorded run, as the words of `debug` and `check` name it.
+#[derive(Clone, Copy, Debug, PartialEq, Eq)]
+pub struct RunWords<'a> {
+    /// The name of the log's file.
+    pub log: &'a str,
+    /// The name of the firmware's file.
+    pub bios: &'a str,
+}
+
 /// What words are.
 #[derive(Clone, Copy, Debug, PartialEq, Eq)]
 pub enum Line<'a> {
     Record(RecordWords<'a>),
     Replay(ReplayWords<'a>),
+    /// A session on a recorded run, back and forth.
+    Debug(RunWords<'a>),
+    /// Whether a log is accepted.
+    Check(RunWords<'a>),
+    /// The events of the log of this name, each in a line.
+    Events(&'a str),
     /// A demonstration by the guest that prints so many letters, 1 to 2000.
     Demo(u32),
     Help,
@@ -65,33 +77,10 @@ fn alone<'a>(line: Line<'a>, rest: &[String]) -> Line<'a>
     }
 }
 
-fn letters(word: &str) -> Option<u32>
-    ensures { result ≡ number_in 1 2000 word.now }
-{
-    Some(number(word, 1, LETTERS_MAX)? as u32)
-}
-
-/// What the words after `demo` are.
-fn read_demo<'a>(rest: &[String]) -> Line<'a>
-    ensures value { seen_line result ≡ demo_reading (map string_bytes rest.now) }
-    ensures named { NamesWord (seen_line result) (length rest.now + 1) }
-    ensures range { IsLineInRange (seen_line result) }
-{
-    let [word, more @ ..] = rest else {
-        return Line::WordsMissing;
-    };
-    match letters(word.as_str()) {
-        None => Line::BadWord(1),
-        Some(count) if more.is_empty() => Line::Demo(count),
-        Some(_) => Line::BadWord(2),
-    }
-}
-
 fn read_from<'a>(options: Options<'a>, number: usize, words: &'a [String]) -> Line<'a>
     requires { number + length words.now < 2 ^ 63 }
-    ensures value { seen_line result
+    ensures { seen_line result
         ≡ reading (seen_given options.entry) number (map string_bytes words.now) }
-    ensures named { NamesWord (seen_line result) (number + length words.now) }
 {
     match words {
         [] => options.at_end(),
@@ -121,13 +110,15 @@ pub fn read_line<'a>(words: &'a [String]) -> Line<'a>
     match first.as_str() {
         "--help" | "-help" | "-h" => alone(Line::Help, rest),
         "--version" | "-version" => alone(Line::Version, rest),
-        "demo" => read_demo(rest),
-        _ => read_from(Options::none(), 0, words),
+        word => match read_command(word, rest) {
+            Some(line) => line,
+            None => read_from(Options::none(), 0, words),
+        },
     }
 }
 
 /// What the words of a quiet command are, the program's own name left out. A quiet command is
-/// `demo`, and needs no threads; another first word is bad.
+/// `debug`, `check`, `events` or `demo`, and needs no threads; another first word is bad.
 pub fn read_quiet<'a>(words: &'a [String]) -> Line<'a>
     ensures value { seen_line result ≡ quiet_in words.now }
     ensures named { NamesWord (seen_line result) (length words.now) }
@@ -136,8 +127,8 @@ pub fn read_quiet<'a>(words: &'a [String]) -> Line<'a>
     let [first, rest @ ..] = words else {
         return Line::WordsMissing;
     };
-    match first.as_str() {
-        "demo" => read_demo(rest),
-        _ => Line::BadWord(0),
+    match read_command(first.as_str(), rest) {
+        Some(line) => line,
+        None => Line::BadWord(0),
     }
 }

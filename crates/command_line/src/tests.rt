@@ -97,6 +97,17 @@ fn a_line_that_leaves_the_grammar_is_refused_at_its_first_bad_word(
         ("demo 01", 1),
         ("demo x", 1),
         ("demo 5 x", 2),
+        ("debug  -bios b", 1),
+        ("debug a -m b", 2),
+        ("debug a -bios  b", 3),
+        ("debug a -bios b c", 4),
+        ("check ", 1),
+        ("check a b", 2),
+        ("check a -bios ", 3),
+        ("check a -bios b -m", 4),
+        ("events ", 1),
+        ("events a b", 2),
+        ("-bios b check", 2),
     ] {
         let given = words(rt.alloc(), line)?;
         assert_eq!(rt; read_line(&given), Line::BadWord(bad), "at {line}");
@@ -112,6 +123,13 @@ fn a_line_that_ends_early_misses_words(rt: HostRuntime) -> Result<(), Fail> {
         "-bios b -icount",
         "-icount rr=replay,rrfile=a -m 1",
         "demo",
+        "debug",
+        "debug a",
+        "debug a -bios",
+        "check",
+        "check a",
+        "check a -bios",
+        "events",
     ] {
         let given = words(rt.alloc(), line)?;
         assert_eq!(rt; read_line(&given), Line::WordsMissing, "at {line}");
@@ -149,10 +167,50 @@ fn a_demonstration_gives_its_number_of_letters(rt: HostRuntime) -> Result<(), Fa
 }
 
 #[test]
-fn a_quiet_command_is_a_demonstration(rt: HostRuntime) -> Result<(), Fail> {
-    for (line, bad) in [("-bios b", 0), ("--help", 0), ("demo 2001", 1)] {
+fn a_recorded_run_is_named_by_two_words_of_any_kind(rt: HostRuntime) -> Result<(), Fail> {
+    let debug = words(rt.alloc(), "debug a -bios b")?;
+    let run = RunWords {
+        log: "a",
+        bios: "b",
+    };
+    assert_eq!(rt; read_line(&debug), Line::Debug(run));
+    assert_eq!(rt; read_quiet(&debug), Line::Debug(run));
+
+    let check = words(rt.alloc(), "check -bios -bios check")?;
+    let run = RunWords {
+        log: "-bios",
+        bios: "check",
+    };
+    assert_eq!(rt; read_line(&check), Line::Check(run));
+    assert_eq!(rt; read_quiet(&check), Line::Check(run));
+    Ok(())
+}
+
+#[test]
+fn events_are_those_of_the_log_that_is_named(rt: HostRuntime) -> Result<(), Fail> {
+    let events = words(rt.alloc(), "events a=b")?;
+    assert_eq!(rt; read_line(&events), Line::Events("a=b"));
+    assert_eq!(rt; read_quiet(&events), Line::Events("a=b"));
+    Ok(())
+}
+
+#[test]
+fn a_quiet_command_begins_with_its_word(rt: HostRuntime) -> Result<(), Fail> {
+    for (line, bad) in [
+        ("-bios b", 0),
+        ("--help", 0),
+        ("demo 2001", 1),
+        ("debug a b", 2),
+        ("check a -bios ", 3),
+        ("check a -bios b c", 4),
+        ("events a b", 2),
+    ] {
         let given = words(rt.alloc(), line)?;
         assert_eq!(rt; read_quiet(&given), Line::BadWord(bad), "at {line}");
+    }
+    for line in ["demo", "debug a", "check a -bios", "events"] {
+        let given = words(rt.alloc(), line)?;
+        assert_eq!(rt; read_quiet(&given), Line::WordsMissing, "at {line}");
     }
     assert_eq!(rt; read_quiet(&[]), Line::WordsMissing);
     Ok(())

@@ -49,13 +49,15 @@ replays-started : (start : State) (log log' : Reader) (a b : Option (List ℕ)) 
     (end : ReplayEnd)
     → StartsEmpty a → n ≡ 0 → Replays start (played log a n) (played log' b m) end
     → Replays start (played log (Some []) 0) (played log' b m) end
-replays-started start log log' a b n m (End reason code) fresh zero w = record {
+replays-started start log log' a b n m (End reason code accepted turns) fresh zero w = record {
   events = w.events;
   last = w.last;
   plays = plays-started start log a n w.events w.last w.plays;
   whole = w.whole;
   short = w.short;
   ended = w.ended;
+  counted = w.counted;
+  made = w.made;
   console = Takes-start a b _ fresh w.console;
   unfaulted = record { log = w.unfaulted.log; console = w.unfaulted.console ∙ zero };
 }

@@ -9,7 +9,7 @@ use Rattle.outside.specs.Roles.{at}
 use Rattle.outside.specs.declared.openings.Opening.{Opening}
 use Rattle.outside.specs.declared.openings.Opening.TheVariants.{Sink}
 use Rattle.outside.specs.declared.roles.Role.TheVariants.{ConsoleIn, ConsoleOut, LogOut, Firmware as FirmwareRole}
-use Rattle.command_line.specs.Words.{Recording, Records}
+use Rattle.command_line.specs.Words.{Recording}
 use Rattle.elf_load.specs.declared.pieces.Loaded.{Loaded}
 use Rattle.event_log.specs.declared.header.Header.{Header}
 use Rattle.event_log.specs.HeaderFormat.{header_text}
@@ -29,7 +29,7 @@ use Rattle.commands.specs.Recordings.{returned, HasWhole, HasFront, HasStop, IsR
 use Rattle.run_files.specs.Headers.{header_of}
 use Rattle.commands.specs.Endings.{IfEnds, IfStops}
 use Rattle.commands.specs.Asking.{recording_header, ending_outcome_of}
-use Rattle.commands.specs.Causes.{Cause, LogsStop}
+use Rattle.commands.specs.Causes.{RecordCause, LogsStop}
 use Rattle.commands.proofs.Logs.{told, is_log}
 
 -- a file that was held gave this firmware
@@ -147,7 +147,7 @@ by-reason : (r : Recording) (old new : Ledger) (reason code : ℕ) (a b : Bool) 
     → (reason == 1) ≡ b
     → IsOwnReason reason code → IfSome (old.names r.bios)
     (λ file. IsRecorded r file old new reason code)
-    → Cause (Records r) old new (if a then outcome.GuestEnded code else if b then
+    → RecordCause r old new (if a then outcome.GuestEnded code else if b then
     outcome.IdleForEver else outcome.BudgetReached)
 by-reason r old new reason code true b e f own k =
     subst (λ (z : ℕ). IfSome (old.names r.bios) (λ file. IsRecorded r file old new z code))
@@ -185,7 +185,7 @@ ending-cause : (r : Recording) (old mid new : Ledger) (f : Firmware) (h : Header
     → (end ≡ ends.ConsoleFailed → Rose (at mid.faults ConsoleOut) (at new.faults ConsoleOut))
     → (end ≡ ends.LogFailed → Rose (at mid.faults LogOut) (at new.faults LogOut))
     → CountsSame FirmwareRole old mid → IsRead old mid
-    → Cause (Records r) old new (ending_outcome_of end)
+    → RecordCause r old new (ending_outcome_of end)
 ending-cause r old mid new f h (ends.End reason code) gives same whole stop a i b c p read =
     by-reason r old new reason code (reason == 0) (reason == 1) refl refl whole.1
     (run-recorded (old.names r.bios) r f h old mid new reason code gives same read whole.0)
@@ -222,7 +222,7 @@ pub run-cause : (r : Recording) (old mid new : Ledger) (f : Firmware) (h : Heade
     → (end ≡ ends.ConsoleFailed → Rose (at mid.faults ConsoleOut) (at new.faults ConsoleOut))
     → (end ≡ ends.LogFailed → Rose (at mid.faults LogOut) (at new.faults LogOut))
     → CountsSame FirmwareRole old mid → IsRead old mid
-    → Cause (Records r) old new result
+    → RecordCause r old new result
 run-cause r old mid new f h end result is gives same whole stop a i b c p read =
-    subst (λ (z : Outcome). Cause (Records r) old new z) (sym is)
+    subst (λ (z : Outcome). RecordCause r old new z) (sym is)
     (ending-cause r old mid new f h end gives same whole stop a i b c p read)

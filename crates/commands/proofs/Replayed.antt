@@ -153,10 +153,10 @@ if-both w (Some xs) (Some file) h f rest b make = make xs file refl (both-told w
 
 -- the log is accepted whole
 replayed : (w : Replaying) (log file : List ℕ) (h : Header) (f : Loaded) (p q : Played) (l : Ledger)
-    (reason code : ℕ)
-    → Told w log file h f (ahead p.log) → PlaysWhole (start_of h f) p q reason code
+    (reason code accepted turns : ℕ)
+    → Told w log file h f (ahead p.log) → PlaysWhole (start_of h f) p q reason code accepted turns
     → p.console ≡ Some [] → at l.last ConsoleOut ≡ q.console → IsReplayed w log file l reason code
-replayed w log file h f p q l reason code t k none taken =
+replayed w log file h f p q l reason code accepted turns t k none taken =
     let whole : drop 98 log ≡ texts k.events =
     subst (λ (o : Option (List ℕ)). IfSome o (λ bytes. bytes ≡ texts k.events)) t.left k.whole in
     record {
@@ -322,7 +322,7 @@ pub end-shown : (w : Replaying) (log file : List ℕ) (h : Header) (f : Loaded) 
     (l : Ledger) (end : ReplayEnd)
     → Told w log file h f (ahead p.log) → Replays (start_of h f) p q end
     → p.console ≡ Some [] → at l.last ConsoleOut ≡ q.console → IsShown w log file l
-end-shown w log file h f p q l (replay_end.End reason code) t k none taken =
+end-shown w log file h f p q l (replay_end.End reason code accepted turns) t k none taken =
     shown w log file h f p q.console l k.events k.last t k.plays
     (TakesFront-all p.console q.console _ k.console) none taken
 end-shown w log file h f p q l replay_end.ConsoleWrite t k none taken =
@@ -398,14 +398,14 @@ pub played-cause : (w : Replaying) (o : Option (List ℕ)) (h : Header) (f : Loa
     → Begins w o (l.names w.bios) h f (ahead log) → ShowsOver (start_of h f) log log' mid m end
     → at mid.faults ConsoleOut ≡ at l.faults ConsoleOut → (Rose log.faults log'.faults → F)
     → ReplayCause w o l m F (replay_outcome_of end)
-played-cause w o h f log log' l mid m F (replay_end.End reason code) b s same failed =
+played-cause w o h f log log' l mid m F (replay_end.End reason code accepted turns) b s same failed =
     let k = s.replays in
     let kind = ending-kind k.events (start_of h f) k.last reason code k.plays.are (going h f)
     k.plays.runs k.ended in
     by-reason w o l m F reason code (reason == 0) (reason == 1) (reason == 2) refl refl refl kind
     (if-both w o (l.names w.bios) h f (ahead log) b (λ bytes file told t.
     replayed w bytes file h f (played log (Some []) 0) (played log' s.console s.faults) m reason
-    code t k refl
+    code accepted turns t k refl
     (s.taken (λ e. absurd cc))))
 played-cause w o h f log log' l mid m F replay_end.ConsoleWrite b s same failed = (
   console-rose l mid m s.faults same s.counted s.replays.1,

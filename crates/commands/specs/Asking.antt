@@ -1,5 +1,5 @@
 -- What the words ask for, and how the parts of a run become its outcome.
-use Rattle.std.specs.Prelude.{ℕ, List, [], ◌==◌, if◌then◌else◌}
+use Rattle.std.specs.Prelude.{ℕ, List, [], ◌==◌, None, if◌then◌else◌}
 use Rattle.sha2.specs.Sha256.{sha256}
 use Rattle.outside.specs.declared.roles.Role.TheVariants.{Firmware, LogOut}
 use Rattle.command_line.specs.declared.line.RecordWords.{RecordWords}
@@ -65,6 +65,10 @@ ending_outcome_of ends.NoMemory = outcome.NoMemory
 abbrev pub replay_asked : ReplayWords → Replaying
 replay_asked w = record { shift = w.shift; ram_mib = w.ram_mib; log = w.log.now; bios = w.bios.now }
 
+-- a replay by words that give no shift and no RAM
+abbrev pub replaying_of : List ℕ → List ℕ → Replaying
+replaying_of log bios = record { shift = None; ram_mib = None; log = log; bios = bios }
+
 -- why no header was read
 abbrev pub header_outcome_of : StreamError → Outcome
 header_outcome_of (stream.Parse (parse.Bad offset rule)) = outcome.HeaderRefused offset
@@ -93,7 +97,7 @@ accepted_outcome_of reason code =
     else outcome.RecordingStopped
 
 abbrev pub replay_outcome_of : ReplayEnd → Outcome
-replay_outcome_of (replay_end.End reason code) = accepted_outcome_of reason code
+replay_outcome_of (replay_end.End reason code accepted turns) = accepted_outcome_of reason code
 replay_outcome_of replay_end.ConsoleWrite = outcome.ConsoleFailed
 replay_outcome_of replay_end.LogRead = outcome.LogUnreadable
 replay_outcome_of replay_end.LogTooLong = outcome.LogTooLong

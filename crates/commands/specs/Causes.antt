@@ -1,19 +1,17 @@
 -- When each outcome of a command comes, by the ledgers before and after.
-use Rattle.std.specs.Prelude.{◌≡◌, ◌⊎◌, ◌<◌, ℕ, ⊤, List, [], ◌==◌, Some, None, IfSome, if◌then◌else◌}
+use Rattle.std.specs.Prelude.{◌≡◌, ℕ, ⊤, List, [], Some, None, IfSome}
 use Rattle.std.specs.declared.option.Option.{Option}
 use Rattle.outside.specs.Causes.{Rose, Stood}
 use Rattle.outside.specs.Ledger.{Ledger}
 use Rattle.outside.specs.Told.{Takes, TakesFront}
 use Rattle.outside.specs.Roles.{at}
-use Rattle.outside.specs.declared.roles.Role.TheVariants.{ConsoleIn, ConsoleOut, LogIn, LogOut, Firmware, Messages}
-use Rattle.command_line.specs.Words.{Recording, Replaying, Reading, Records, Replays, Demonstrates, Help, Version, Bad, Early}
+use Rattle.outside.specs.declared.roles.Role.TheVariants.{ConsoleIn, ConsoleOut, LogIn, LogOut, Firmware}
+use Rattle.command_line.specs.Words.{Recording, Replaying, Reading, Records, Replays, Demonstrates}
 use Rattle.event_log.specs.declared.header.Header.{Header}
 use Rattle.rr_engine.specs.Input.{Extent, Entire, Part}
 use Rattle.commands.specs.declared.outcome.Outcome.{Outcome}
-use Rattle.commands.specs.declared.outcome.Outcome.TheVariants.{Printed, GuestEnded, IdleForEver, BudgetReached, BadWord, WordsMissing, CannotOpen, CannotRead, ConsoleUnreadable, ConsoleFailed, LogFailed, LogUnreadable, BadFirmware, RecordingStopped, HeaderRefused, LogRefused, ImagesDiffer, LogTooLong, QuietFailed, NoMemory}
-use Rattle.commands.specs.declared.printing.TheConstants.{HELP, VERSION}
+use Rattle.commands.specs.declared.outcome.Outcome.TheVariants.{Printed, GuestEnded, IdleForEver, BudgetReached, CannotOpen, CannotRead, ConsoleUnreadable, ConsoleFailed, LogFailed, LogUnreadable, BadFirmware, RecordingStopped, HeaderRefused, LogRefused, ImagesDiffer, LogTooLong, QuietFailed, NoMemory}
 use Rattle.run_files.specs.Ledgers.{Untouched}
-use Rattle.commands.specs.Faults.{NamesFault, NamesFirstFault}
 use Rattle.run_files.specs.Files.{FailsToOpen}
 use Rattle.commands.specs.Openings.{opening_of}
 use Rattle.demo_run.specs.Demos.{Demonstration, demo_line}
@@ -43,22 +41,13 @@ abbrev pub IfRecording : Reading → Type 0 → Type 0
 IfRecording (Records r) P = P
 IfRecording other P = ⊤
 
--- the words ask for a replay
-abbrev pub AsksReplay : Reading → Type 0
-AsksReplay (Replays r) = ⊤
-AsksReplay other = ⊥
-
--- The words ask for a text, which was printed.
-abbrev pub IsPrinted : Reading → Ledger → Type 0
-IsPrinted Help l = Takes (Some []) (at l.last ConsoleOut) HELP.now
-IsPrinted Version l = Takes (Some []) (at l.last ConsoleOut) VERSION.now
-IsPrinted (Demonstrates n) l =
-    (d : Demonstration n) × Takes (Some []) (at l.last ConsoleOut) (demo_line n d)
-IsPrinted other l = ⊥
+-- a demonstration's line was printed
+abbrev pub IsDemoPrinted : ℕ → Ledger → Type 0
+IsDemoPrinted n l = (d : Demonstration n) × Takes (Some []) (at l.last ConsoleOut) (demo_line n d)
 
 -- A demonstration's line, or a front of it, was printed.
-abbrev pub IsPrintedFront : ℕ → Ledger → Type 0
-IsPrintedFront n l =
+abbrev pub IsDemoPrintedFront : ℕ → Ledger → Type 0
+IsDemoPrintedFront n l =
     (d : Demonstration n) × TakesFront (Some []) (at l.last ConsoleOut) (demo_line n d)
 
 -- what holds where the words ask for a demonstration
@@ -135,32 +124,15 @@ ReplayCause r log old new failed NoMemory = ⊤
 ReplayCause r log old new failed other = ⊥
 
 -- when a text that stands alone has an outcome
-abbrev pub PrintCause : Reading → Ledger → Ledger → Outcome → Type 0
-PrintCause r old new Printed = IsPrinted r new
-PrintCause r old new ConsoleFailed = Rose (at old.faults ConsoleOut) (at new.faults ConsoleOut)
-PrintCause r old new NoMemory = ⊤
-PrintCause r old new other = ⊥
+abbrev pub PrintCause : List ℕ → Ledger → Ledger → Outcome → Type 0
+PrintCause text old new Printed = Takes (Some []) (at new.last ConsoleOut) text
+PrintCause text old new ConsoleFailed = Rose (at old.faults ConsoleOut) (at new.faults ConsoleOut)
+PrintCause text old new NoMemory = ⊤
+PrintCause text old new other = ⊥
 
 -- when a demonstration has an outcome
 abbrev pub DemoCause : ℕ → Ledger → Ledger → Outcome → Type 0
-DemoCause n old new Printed = IsPrinted (Demonstrates n) new
+DemoCause n old new Printed = IsDemoPrinted n new
 DemoCause n old new QuietFailed = Rose (at old.faults ConsoleOut) (at new.faults ConsoleOut)
 DemoCause n old new NoMemory = ⊤
 DemoCause n old new other = ⊥
-
--- when an outcome comes
-abbrev pub Cause : Reading → Ledger → Ledger → Outcome → Type 0
-Cause (Records r) old new outcome = RecordCause r old new outcome
-Cause (Replays r) old new outcome =
-    ReplayCause r (old.names r.log) old new (Rose (at old.faults LogIn) (at new.faults LogIn))
-    outcome
-Cause (Demonstrates n) old new outcome = DemoCause n old new outcome
-Cause Help old new outcome = PrintCause Help old new outcome
-Cause Version old new outcome = PrintCause Version old new outcome
-Cause (Bad k) old new outcome = (outcome ≡ BadWord k) ⊎ (outcome ≡ NoMemory)
-Cause Early old new outcome = (outcome ≡ WordsMissing) ⊎ (outcome ≡ NoMemory)
-
--- the outcome names each fault that was counted; that of a recording the first
-abbrev pub Names : Reading → Outcome → Ledger → Ledger → Type 0
-Names (Records r) outcome old new = NamesFirstFault outcome old new
-Names other outcome old new = NamesFault outcome old new

@@ -7,7 +7,7 @@ use Rattle.outside.specs.Roles.{at}
 use Rattle.outside.specs.declared.roles.Role.{Role}
 use Rattle.outside.specs.declared.roles.Role.TheVariants.{ConsoleIn, ConsoleOut, LogIn, LogOut, Firmware}
 use Rattle.commands.specs.declared.outcome.Outcome.{Outcome}
-use Rattle.commands.specs.declared.outcome.Outcome.TheVariants.{CannotOpen, CannotRead, ConsoleUnreadable, ConsoleFailed, LogFailed, LogUnreadable, QuietFailed, NoMemory}
+use Rattle.commands.specs.declared.outcome.Outcome.TheVariants.{CannotOpen, CannotRead, ConsoleUnreadable, ConsoleFailed, LogFailed, LogUnreadable, QuietFailed, CommandsUnreadable, NoMemory}
 
 -- what is counted: openings that failed, or the faults of a role's devices
 pub data Fault : Type 0 where
@@ -21,6 +21,7 @@ fault_of CannotRead = Some (Device Firmware)
 fault_of ConsoleUnreadable = Some (Device ConsoleIn)
 fault_of ConsoleFailed = Some (Device ConsoleOut)
 fault_of QuietFailed = Some (Device ConsoleOut)
+fault_of CommandsUnreadable = Some (Device ConsoleIn)
 fault_of LogFailed = Some (Device LogOut)
 fault_of LogUnreadable = Some (Device LogIn)
 fault_of other = None

@@ -1,13 +1,11 @@
--- What the words let be opened, in the order in which it is.
-use Rattle.std.specs.Prelude.{◌≡◌, ℕ, List, [], ◌∷◌, Some, None}
-use Rattle.outside.specs.Ledger.{Ledger}
-use Rattle.outside.specs.Openings.{OpensFront}
+-- What a command opens, in the order in which it does.
+use Rattle.std.specs.Prelude.{ℕ, List, [], ◌∷◌, Some, None}
 use Rattle.outside.specs.declared.openings.Opening.{Opening}
 use Rattle.outside.specs.declared.openings.Opening.TheVariants.{Source, Sink, Clock}
 use Rattle.outside.specs.declared.roles.Role.{Role}
-use Rattle.outside.specs.declared.roles.Role.TheVariants.{ConsoleIn, ConsoleOut, LogIn, LogOut, Firmware, Messages}
+use Rattle.outside.specs.declared.roles.Role.TheVariants.{ConsoleIn, ConsoleOut, LogIn, LogOut, Firmware}
 use Rattle.run_files.specs.Files.{firmware_opening}
-use Rattle.command_line.specs.Words.{Recording, Replaying, Reading, Records, Replays, Demonstrates, Help, Version, Bad, Early}
+use Rattle.command_line.specs.Words.{Recording, Replaying, Reading, Records, Replays}
 
 -- the console, its input first, the clock, and the log under that name
 abbrev pub device_openings : List ℕ → List Opening
@@ -22,26 +20,13 @@ console_openings = Sink ConsoleOut None ∷ []
 abbrev pub played_openings : List ℕ → List Opening
 played_openings bios = firmware_opening bios ∷ console_openings
 
--- what the words let be opened, but for the messages
-abbrev pub openings_of : Reading → List Opening
-openings_of (Records r) = firmware_opening r.bios ∷ device_openings r.log
-openings_of (Replays r) = Source LogIn (Some r.log) ∷ played_openings r.bios
-openings_of (Demonstrates n) = console_openings
-openings_of Help = console_openings
-openings_of Version = console_openings
-openings_of (Bad k) = []
-openings_of Early = []
+-- what a recording opens
+abbrev pub record_openings : Recording → List Opening
+record_openings r = firmware_opening r.bios ∷ device_openings r.log
 
--- the messages, which are standard error
-abbrev pub message_openings : List Opening
-message_openings = Sink Messages None ∷ []
-
--- A front of what the words let be opened was opened, in that order and nothing between; and then
--- the messages, or nothing.
-pub record OpensAsAsked (r : Reading) (old new : Ledger) : Type 0 where
-  pub done : List Opening
-  pub asked : OpensFront old.openings done (openings_of r)
-  pub said : OpensFront done new.openings message_openings
+-- what a replay opens
+abbrev pub replay_openings : Replaying → List Opening
+replay_openings r = Source LogIn (Some r.log) ∷ played_openings r.bios
 
 -- how the file of a role is opened
 abbrev pub opening_of : Reading → Role → Opening

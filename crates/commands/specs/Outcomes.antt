@@ -1,7 +1,7 @@
 -- The status of an outcome.
 use Rattle.std.specs.Prelude.{ℕ, ◌==◌, if◌then◌else◌}
 use Rattle.commands.specs.declared.outcome.Outcome.{Outcome}
-use Rattle.commands.specs.declared.outcome.Outcome.TheVariants.{Printed, GuestEnded, IdleForEver, BudgetReached, BadWord, WordsMissing, CannotOpen, CannotRead, ConsoleUnreadable, ConsoleFailed, LogFailed, LogUnreadable, BadFirmware, RecordingStopped, HeaderRefused, LogRefused, ImagesDiffer, LogTooLong, QuietFailed, NoMemory}
+use Rattle.commands.specs.declared.outcome.Outcome.TheVariants.{Printed, GuestEnded, IdleForEver, BudgetReached, BadWord, WordsMissing, CannotOpen, CannotRead, ConsoleUnreadable, ConsoleFailed, LogFailed, LogUnreadable, BadFirmware, RecordingStopped, HeaderRefused, LogRefused, ImagesDiffer, LogTooLong, QuietFailed, CommandsUnreadable, TooMuchInput, NoMemory}
 
 abbrev pub status_of : Outcome → ℕ
 status_of Printed = 0
@@ -18,9 +18,11 @@ status_of LogFailed = 5
 status_of LogUnreadable = 6
 status_of (BadFirmware rule) = 8
 status_of QuietFailed = 9
+status_of CommandsUnreadable = 9
 status_of RecordingStopped = 14
 status_of (HeaderRefused offset) = 20
 status_of (LogRefused refusal) = 20
 status_of (ImagesDiffer difference) = 21
 status_of LogTooLong = 22
+status_of TooMuchInput = 23
 status_of NoMemory = 30

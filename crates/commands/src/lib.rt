@@ -7,10 +7,12 @@ mod outcome;
 mod printing;
 mod quiet;
 mod recording;
+mod refusing;
 mod replaying;
 
 pub use outcome::Outcome;
 pub use printing::{HELP, PrintFault, VERSION, print};
 pub use quiet::demonstrate;
 pub use recording::run;
+pub use refusing::{header_outcome, image_outcome};
 pub use replaying::replay;

@@ -8,7 +8,7 @@ use run_files::Difference;
 /// How a call ended.
 #[derive(Debug, Drop)]
 pub enum Outcome {
-    /// The help or the version was printed.
+    /// What was asked for was printed: a text, or what a quiet command answers.
     Printed,
     /// The guest ended with this code.
     GuestEnded(u32),
@@ -43,6 +43,10 @@ pub enum Outcome {
     LogTooLong,
     /// What a quiet command printed wasn't taken whole.
     QuietFailed,
+    /// The commands of a debugging session couldn't be read.
+    CommandsUnreadable,
+    /// More commands came than a debugging session reads.
+    TooMuchInput,
     NoMemory,
 }
 
@@ -70,7 +74,8 @@ impl Outcome {
             Outcome::HeaderRefused(_) | Outcome::LogRefused(_) => 20,
             Outcome::ImagesDiffer(_) => 21,
             Outcome::LogTooLong => 22,
-            Outcome::QuietFailed => 9,
+            Outcome::QuietFailed | Outcome::CommandsUnreadable => 9,
+            Outcome::TooMuchInput => 23,
             Outcome::NoMemory => 30,
         }
     }

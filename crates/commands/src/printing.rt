@@ -22,6 +22,9 @@ log that a one-thread machine accepts event by event, and replays it.
 usage: rrvm -icount shift=N,rr=record,rrfile=LOG -bios FILE
             [-m MIB] [-budget T] [-slice S]
        rrvm -icount rr=replay,rrfile=LOG[,shift=N] -bios FILE [-m MIB]
+       rrvm debug LOG -bios FILE
+       rrvm check LOG -bios FILE
+       rrvm events LOG
        rrvm demo N
        rrvm --help | --version
 
@@ -33,6 +36,12 @@ usage: rrvm -icount shift=N,rr=record,rrfile=LOG -bios FILE
   -m        RAM in MiB, 1 to 64 (16; of a replay what its log says)
   -budget   the most turns, 1 to 2^40 (1000000000)
   -slice    turns between two checkpoints, 1 to 65536 (10000)
+  debug     go back and forth in a recorded run, by commands on standard input:
+            info replay, info registers, replay_seek N, replay_break N,
+            replay_delete_break, reverse-step, reverse-continue, step, continue,
+            x ADDRESS LENGTH, quit
+  check     tell whether the machine accepts the log, and what it comes to
+  events    list the events of the log, each in a line
   demo N    record and replay in memory a guest that prints N letters, 1 to 2000
 
 The console is standard input and output, messages go to standard error. The
@@ -46,11 +55,12 @@ status
    4  console output failed              20  the log is refused
    5  log output failed                  21  the images aren't those of the log
    6  log input failed                   22  the log is too long
-   8  bad firmware                       30  no memory
-   9  a quiet command's output failed
+   8  bad firmware                       23  too many commands
+   9  a quiet command's streams failed   30  no memory
 
 example: rrvm -icount shift=0,rr=record,rrfile=a.log -bios letter.bin
          rrvm -icount rr=replay,rrfile=a.log -bios letter.bin
+         rrvm debug a.log -bios letter.bin
 ";
 
 /// Why a text wasn't printed.

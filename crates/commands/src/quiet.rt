@@ -4,12 +4,11 @@ ghost use Rattle.std.specs.Prelude.{◌≡◌, ◌<◌, ◌≤◌, ◌⊎◌};
 ghost use Rattle.outside.specs.Causes.{Rose};
 ghost use Rattle.outside.specs.Roles.{at};
 ghost use Rattle.outside.specs.declared.roles.Role.TheVariants.{ConsoleOut};
-ghost use Rattle.command_line.specs.Words.{Demonstrates};
 ghost use Rattle.outside.specs.Openings.{OpensFront};
 ghost use Rattle.commands.specs.Faults.{NamesFault};
 ghost use Rattle.run_files.specs.Ledgers.{only, Balanced};
 ghost use Rattle.commands.specs.Openings.{console_openings};
-ghost use Rattle.commands.specs.Causes.{IsPrinted, IsPrintedFront};
+ghost use Rattle.commands.specs.Causes.{IsDemoPrinted, IsDemoPrintedFront};
 
 use crate::outcome::Outcome;
 use crate::printing::{PrintFault, print};
@@ -29,7 +28,7 @@ pub fn demonstrate<W: World, L: Ledger>(
     requires some { 1 ≤ n }
     requires few { n ≤ 2000 }
     ensures printed { result ≡ Outcome.Printed
-        → IsPrinted (Demonstrates n) (W.ledger world.new) }
+        → IsDemoPrinted n (W.ledger world.new) }
     ensures failed { result ≡ Outcome.QuietFailed
         → Rose (at (W.ledger world.old).faults ConsoleOut)
         (at (W.ledger world.new).faults ConsoleOut) }
@@ -37,7 +36,7 @@ pub fn demonstrate<W: World, L: Ledger>(
         ⊎ ((result ≡ Outcome.QuietFailed) ⊎ (result ≡ Outcome.NoMemory)) }
     ensures front { at (W.ledger world.old).opened ConsoleOut
         < at (W.ledger world.new).opened ConsoleOut
-        → IsPrintedFront n (W.ledger world.new) }
+        → IsDemoPrintedFront n (W.ledger world.new) }
     ensures kept { NamesFault result (W.ledger world.old) (W.ledger world.new) }
     ensures openings { OpensFront (W.ledger world.old).openings (W.ledger world.new).openings
         console_openings }

@@ -8,9 +8,9 @@ ghost use Rattle.event_log.specs.HeaderFormat.{IsHeader};
 ghost use Rattle.outside.specs.Openings.{OpensFront};
 ghost use Rattle.run_files.specs.Ledgers.{only_run, Balanced, ClocksBalanced, Untouched};
 ghost use Rattle.commands.specs.Faults.{NamesFirstFault};
-ghost use Rattle.commands.specs.Openings.{openings_of};
+ghost use Rattle.commands.specs.Openings.{record_openings};
 ghost use Rattle.commands.specs.Asking.{asked, recording_header, firmware_outcome_of, ending_outcome_of};
-ghost use Rattle.commands.specs.Causes.{Cause, IfRecords};
+ghost use Rattle.commands.specs.Causes.{RecordCause, IfRecords};
 ghost use Rattle.commands.specs.Recordings.{IsLogged};
 
 use crate::devices::{RecordingEnd, record};
@@ -74,14 +74,13 @@ pub fn run<W: World, L: Ledger>(
     steps: &mut Steps<L>,
 ) -> Outcome
     requires { IsInRange (asked words.now) }
-    ensures cause { Cause (Records (asked words.now))
-        (W.ledger world.old) (W.ledger world.new) result }
+    ensures cause { RecordCause (asked words.now) (W.ledger world.old) (W.ledger world.new) result }
     ensures log { at (W.ledger world.old).opened LogOut < at (W.ledger world.new).opened LogOut
         → IfRecords (Records (asked words.now)) (W.ledger world.old)
         (λ r file. IsLogged r file (W.ledger world.old) (W.ledger world.new)) }
     ensures kept { NamesFirstFault result (W.ledger world.old) (W.ledger world.new) }
     ensures openings { OpensFront (W.ledger world.old).openings (W.ledger world.new).openings
-        (openings_of (Records (asked words.now))) }
+        (record_openings (asked words.now)) }
     ensures untouched { at (W.ledger world.new).opened LogOut
         ≡ at (W.ledger world.old).opened LogOut → at (W.ledger world.old).opened LogOut < 2 ^ 63
         → Untouched (W.ledger world.old) (W.ledger world.new) }

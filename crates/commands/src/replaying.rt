@@ -4,7 +4,6 @@ ghost use Rattle.std.specs.Prelude.{◌≡◌, ◌<◌, false};
 ghost use Rattle.outside.specs.Causes.{Rose};
 ghost use Rattle.outside.specs.Roles.{at};
 ghost use Rattle.outside.specs.declared.roles.Role.TheVariants.{ConsoleIn, ConsoleOut, LogIn, LogOut, Firmware as FirmwareRole};
-ghost use Rattle.command_line.specs.Words.{Replays, IsReplayInRange};
 ghost use Rattle.elf_load.specs.Load.{LiesInRam};
 ghost use Rattle.event_log.specs.HeaderFormat.{IsHeader};
 ghost use Rattle.event_log.specs.Reading.{ahead, none_read};
@@ -12,20 +11,21 @@ ghost use Rattle.outside.specs.Openings.{OpensFront};
 ghost use Rattle.board.specs.Reset.{start_of};
 ghost use Rattle.commands.specs.Faults.{fault_of, KeptBut};
 ghost use Rattle.run_files.specs.Ledgers.{only, only_run, Balanced, ClocksBalanced};
-ghost use Rattle.commands.specs.Openings.{openings_of, played_openings, console_openings};
-ghost use Rattle.commands.specs.Asking.{replay_asked, header_outcome_of, image_outcome_of, replay_outcome_of};
+ghost use Rattle.commands.specs.Openings.{replay_openings, played_openings, console_openings};
+ghost use Rattle.commands.specs.Asking.{replay_asked, replay_outcome_of};
 ghost use Rattle.commands.specs.Replays.{word_difference as word_difference_of, IsShown};
 ghost use Rattle.commands.specs.Playing.{ShowsOver, only_playing, PlayingKeptBut};
-ghost use Rattle.commands.specs.Causes.{Cause, ReplayCause, IfBoth};
+ghost use Rattle.commands.specs.Causes.{ReplayCause, IfBoth};
 
 use crate::outcome::Outcome;
+use crate::refusing::{header_outcome, image_outcome};
 use board::Steps;
 use command_line::ReplayWords;
 use elf_load::Loaded;
-use event_log::{Header, LogReader, ParseError, ReadAhead, StreamError};
+use event_log::{Header, LogReader, ReadAhead};
 use outside::{Careful, OpenError, Role, World};
 use rr_engine::{ReplayEnd, replay_one};
-use run_files::{Difference, ImageFault, read_image};
+use run_files::{Difference, read_image};
 use std::alloc::Global;
 use std::sync::ledger::Ledger;
 
@@ -46,40 +46,16 @@ fn word_difference(words: &ReplayWords<'_>, header: &Header) -> Option<Differenc
     None
 }
 
-/// Why no header was read.
-fn header_outcome(error: StreamError) -> Outcome
-    ensures { result ≡ header_outcome_of error }
-{
-    match error {
-        StreamError::Parse(ParseError::Bad { offset, .. }) => Outcome::HeaderRefused(offset),
-        StreamError::Parse(ParseError::Cut(offset)) => Outcome::HeaderRefused(offset),
-        StreamError::Parse(ParseError::NoMemory) | StreamError::NoMemory => Outcome::NoMemory,
-        StreamError::Failed => Outcome::LogUnreadable,
-        StreamError::TooLong => Outcome::LogTooLong,
-    }
-}
-
-/// Why the firmware's file isn't the image.
-fn image_outcome(fault: ImageFault) -> Outcome
-    ensures { result ≡ image_outcome_of fault }
-{
-    match fault {
-        ImageFault::CannotOpen => Outcome::CannotOpen(Role::Firmware),
-        ImageFault::CannotRead => Outcome::CannotRead,
-        ImageFault::OtherFirmware => Outcome::ImagesDiffer(Difference::Firmware),
-        ImageFault::Bad(rule) => Outcome::BadFirmware(rule),
-        ImageFault::OtherDiskLength => Outcome::ImagesDiffer(Difference::DiskLength),
-        ImageFault::OtherDisk => Outcome::ImagesDiffer(Difference::Disk),
-        ImageFault::NoMemory => Outcome::NoMemory,
-    }
-}
-
 /// How the replay ended.
 fn replay_outcome(end: ReplayEnd) -> Outcome
     ensures { result ≡ replay_outcome_of end }
 {
     match end {
-        ReplayEnd::End { reason: 0, code } => Outcome::GuestEnded(code),
+        ReplayEnd::End {
+            reason: 0,
+            code,
+            ..
+        } => Outcome::GuestEnded(code),
         ReplayEnd::End { reason: 1, .. } => Outcome::IdleForEver,
         ReplayEnd::End { reason: 2, .. } => Outcome::BudgetReached,
         ReplayEnd::End { .. } => Outcome::RecordingStopped,
@@ -165,8 +141,10 @@ pub fn replay<W: World, L: Ledger>(
     world: &mut W,
     steps: &mut Steps<L>,
 ) -> Outcome
-    ensures cause { Cause (Replays (replay_asked words.now))
-        (W.ledger world.old) (W.ledger world.new) result }
+    ensures cause { ReplayCause (replay_asked words.now)
+        ((W.ledger world.old).names (replay_asked words.now).log) (W.ledger world.old)
+        (W.ledger world.new) (Rose (at (W.ledger world.old).faults LogIn)
+        (at (W.ledger world.new).faults LogIn)) result }
     ensures shown { at (W.ledger world.old).opened ConsoleOut
         < at (W.ledger world.new).opened ConsoleOut
         → IfBoth ((W.ledger world.old).names (replay_asked words.now).log)
@@ -174,7 +152,7 @@ pub fn replay<W: World, L: Ledger>(
         (λ bytes file. IsShown (replay_asked words.now) bytes file (W.ledger world.new)) }
     ensures kept { KeptBut (fault_of result) (W.ledger world.old) (W.ledger world.new) }
     ensures openings { OpensFront (W.ledger world.old).openings (W.ledger world.new).openings
-        (openings_of (Replays (replay_asked words.now))) }
+        (replay_openings (replay_asked words.now)) }
     ensures balanced_firmware { Balanced FirmwareRole (W.ledger world.old) (W.ledger world.new) }
     ensures balanced_input { Balanced ConsoleIn (W.ledger world.old) (W.ledger world.new) }
     ensures balanced_console { Balanced ConsoleOut (W.ledger world.old) (W.ledger world.new) }

@@ -332,8 +332,10 @@ not-refused start h log console p q refusal r k =
 pub ends-whole : (start : State) (h : Header) (log console : List ℕ) (p q : Played)
     (end : ReplayEnd)
     → Repeats start h log console p q → Replays start p q end
-    → ((reason code : ℕ) → end ≡ End reason code → ⊥) → (end ≡ NoMemory → ⊥) → ⊥
-ends-whole start h log console p q (End reason code) r k whole memory = whole reason code refl
+    → ((reason code accepted turns : ℕ) → end ≡ End reason code accepted turns → ⊥)
+    → (end ≡ NoMemory → ⊥) → ⊥
+ends-whole start h log console p q (End reason code accepted turns) r k whole memory =
+    whole reason code accepted turns refl
 ends-whole start h log console p q ConsoleWrite r k whole memory =
     omega (arith, k.1, r.console_faults, r.console_stays)
 ends-whole start h log console p q LogRead r k whole memory =
@@ -346,10 +348,10 @@ ends-whole start h log console p q NoMemory r k whole memory = memory refl
 
 -- the console took what the recording's took
 pub shown-again : (start : State) (h : Header) (log console shown : List ℕ) (p q : Played)
-    (reason code : ℕ)
-    → Repeats start h log console p q → PlaysWhole start p q reason code
+    (reason code accepted turns : ℕ)
+    → Repeats start h log console p q → PlaysWhole start p q reason code accepted turns
     → q.console ≡ Some shown → shown ≡ console
-shown-again start h log console shown p q reason code r k told =
+shown-again start h log console shown p q reason code accepted turns r k told =
     let text : drop 98 log ≡ texts k.events =
     ahead-is (ahead p.log) (drop 98 log) (λ bytes. bytes ≡ texts k.events) r.bytes k.whole in
     let events : k.events ≡ r.recording.events =

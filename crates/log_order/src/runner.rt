@@ -176,6 +176,13 @@ impl Runner {
         out
     }
 
+    /// How many events were accepted. A `u64` holds no more than 2^64 - 1.
+    pub fn accepted(&self) -> u64
+        ensures { result ≡ self.now.index }
+    {
+        self.index
+    }
+
     /// The machine: after a refused INSTRUCTION it stands after as many of its turns as ran.
     pub fn machine(&self) -> &Machine
         ensures { result.now ≡ self.now.machine }

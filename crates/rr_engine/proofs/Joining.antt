@@ -18,8 +18,8 @@ use Rattle.rr_engine.specs.declared.parts.Break.{Break}
 use Rattle.rr_engine.specs.declared.parts.Break.TheVariants.{ConsoleRead, ConsoleWrite, LogWrite, NoMemory}
 use Rattle.rr_engine.specs.Stand.{Stand}
 use Rattle.rr_engine.specs.Input.{Extent, Entire, Part}
-use Rattle.rr_engine.specs.Feed.{Feed, Unfailed}
-use Rattle.rr_engine.specs.Windows.{Remainder, nothing_left, Hears}
+use Rattle.rr_engine.specs.Feed.{Feed}
+use Rattle.rr_engine.specs.Windows.{Remainder, Hears}
 use Rattle.rr_engine.specs.Recording.{clock_value, clock_values, Took, Appended, Logged, Gave, Counted, Steady, Recorded, IsLogged, Broke, Goes}
 use Rattle.rr_engine.proofs.Feeding.{hears-then, hears-none, unfailed-same, unfailed-then, failed-after}
 

@@ -1,11 +1,10 @@
 -- A window's inputs were received.
-use Rattle.std.proofs.Common.{◌≡◌, ℕ, Bool, List, [], ◌∷◌, refl, sym, ap, ◌∙◌, subst}
+use Rattle.std.proofs.Common.{◌≡◌, ℕ, List, [], sym, ap, ◌∙◌, subst}
 use Rattle.std.specs.Prelude.{Some, None, is_some, Result, Ok, Err}
 use Rattle.std.specs.declared.option.Option.{Option}
-use Rattle.outside.specs.Causes.{Rose, Stood}
+use Rattle.outside.specs.Causes.{Rose}
 use Rattle.event_log.specs.declared.event.Event.{Event}
-use Rattle.io_workers.specs.Intake.{Intake, Nexts}
-use Rattle.io_workers.specs.declared.read_error.ReadError.{ReadError}
+use Rattle.io_workers.specs.Intake.{Intake}
 use Rattle.io_workers.specs.declared.read_error.ReadError.TheVariants as error
 use Rattle.rr_engine.specs.declared.parts.Break.{Break}
 use Rattle.rr_engine.specs.declared.parts.Break.TheVariants.{ConsoleRead, ConsoleWrite, LogWrite, NoMemory}

@@ -65,9 +65,9 @@ module _ (start : State) (head : List ℕ) (old new : Devices) (reason code : �
       (recorded-whole w.events start w.last w.are w.runs
       (some-ending w.last.control.ended reason code w.ended))
 
-  alike : (q : Played) (r c : ℕ) → PlaysWhole start p q r c
-      → EndsAlike reason code old new p q (End r c)
-  alike q r c again =
+  alike : (q : Played) (r c n t : ℕ) → PlaysWhole start p q r c n t
+      → EndsAlike reason code old new p q (End r c n t)
+  alike q r c n t again =
       let all : back.behind ≡ texts again.events =
       of-held (ahead p.log) back.behind (λ bytes. bytes ≡ texts again.events) back.held again.whole in
       let too : IsWhole back.behind start again.last =
@@ -117,7 +117,7 @@ module _ (start : State) (head : List ℕ) (old new : Devices) (reason code : �
 
   comes-alike : (q : Played) (end : ReplayEnd) → Replays start p q end
       → EndsAlike reason code old new p q end
-  comes-alike q (End r c) again = alike q r c again
+  comes-alike q (End r c n t) again = alike q r c n t again
   comes-alike q ConsoleWrite again = again.1
   comes-alike q LogRead again = again.1
   comes-alike q LogTooLong again = unlimited q again

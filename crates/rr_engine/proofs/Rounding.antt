@@ -1,5 +1,5 @@
 -- What each round gives, from the event that it entered.
-use Rattle.std.proofs.Common.{◌≡◌, ℕ, ◌+◌, ◌-◌, ◌^◌, ◌*◌, ◌<◌, ◌≤◌, Bool, true, false, List, [], ◌∷◌, refl, sym, ap, ◌∙◌, subst, inl, inr, arith}
+use Rattle.std.proofs.Common.{◌≡◌, ℕ, ◌+◌, ◌-◌, ◌^◌, ◌<◌, ◌≤◌, Bool, true, false, List, [], ◌∷◌, refl, sym, ap, ◌∙◌, subst, inl, inr, arith}
 use Rattle.std.specs.Prelude.{Some, None, OnOk, Result, Ok, Err}
 use Rattle.std.specs.declared.option.Option.{Option}
 use Rattle.outside.specs.Told.{Takes}
@@ -20,14 +20,13 @@ use Rattle.board.specs.Taken.{without_out}
 use Rattle.rr_engine.specs.declared.parts.Break.{Break}
 use Rattle.rr_engine.specs.declared.parts.Break.TheVariants.{ConsoleRead, ConsoleWrite, LogWrite, NoMemory}
 use Rattle.rr_engine.specs.declared.recorder.Recorder.{Recorder}
-use Rattle.rr_engine.specs.Input.{Entire, Part}
 use Rattle.rr_engine.specs.Feed.{Feed, Source, IsOver, IsSound}
-use Rattle.rr_engine.specs.Windows.{Remainder, Unreceived, Left, nothing_left}
+use Rattle.rr_engine.specs.Windows.{Unreceived, nothing_left}
 use Rattle.rr_engine.specs.Stand.{Stand, Devices, stand}
 use Rattle.io_workers.specs.Intake.{Intake}
 use Rattle.rr_engine.specs.Work.{work, work_left, FallsBy, Falls}
 use Rattle.rr_engine.specs.Rounds.{GoesOn, Rounds}
-use Rattle.rr_engine.specs.Recording.{Recorded, Goes, Enters, Notes, Shows, IsOwed, IsOwn, IsOwnEnd, EndsByItself, Rests, clock_value}
+use Rattle.rr_engine.specs.Recording.{Goes, Enters, Notes, Shows, IsOwed, IsOwn, IsOwnEnd, EndsByItself, Rests, clock_value}
 use Rattle.rr_engine.proofs.Joining.{goes-then, broken-to}
 use Rattle.rr_engine.proofs.Owing.{owes_end}
 use Rattle.rr_engine.proofs.Stopping.{shown, shown-machine, due-without}

@@ -1,12 +1,10 @@
 -- The inputs of a window are entered, one after another.
 use Rattle.std.proofs.Common.{◌≡◌, ℕ, ◌+◌, ◌*◌, ◌≤◌, Bool, true, false, List, [], ◌∷◌, ◌++◌, length, map, refl, sym, ap, ◌∙◌, subst, inl, inr, append_assoc, append-nil, arith}
-use Rattle.std.specs.Prelude.{◌⊎◌, Some, None, OnOk, All, reverse, is_some, Result, Ok, Err}
+use Rattle.std.specs.Prelude.{Some, None, All, reverse, is_some, Result, Ok, Err}
 use Rattle.std.specs.declared.option.Option.{Option}
-use Rattle.std.proofs.lemmas.List.{reverse-append, reverse-reverse, map-append, length-append, length-map}
+use Rattle.std.proofs.lemmas.List.{reverse-append, reverse-reverse, length-append, length-map}
 use Rattle.std.proofs.lemmas.List.Elements.{All-head, All-tail}
 use Rattle.event_log.specs.declared.event.Event.{Event}
-use Rattle.event_log.specs.declared.event.Event.TheVariants as event
-use Rattle.event_log.specs.Spelling.{text}
 use Rattle.plain_hub.specs.declared.item.Item.{Item}
 use Rattle.plain_hub.specs.declared.item.Item.TheVariants as item
 use Rattle.board.specs.State.{State}
@@ -17,21 +15,21 @@ use Rattle.io_workers.specs.Intake.{Intake, Progress}
 use Rattle.io_workers.specs.declared.read_error.ReadError.TheVariants as error
 use Rattle.board.specs.declared.control.Ending.{Ending}
 use Rattle.rr_engine.specs.declared.parts.Break.{Break}
-use Rattle.rr_engine.specs.declared.parts.Break.TheVariants.{ConsoleRead, ConsoleWrite, LogWrite, NoMemory}
+use Rattle.rr_engine.specs.declared.parts.Break.TheVariants.{ConsoleRead, NoMemory}
 use Rattle.rr_engine.specs.declared.recorder.Recorder.{Recorder}
 use Rattle.rr_engine.specs.Stand.{Stand, Devices, stand}
 use Rattle.rr_engine.specs.Work.{work, FallsBy, Falls}
-use Rattle.rr_engine.specs.Input.{Entire, Part}
+use Rattle.rr_engine.specs.Input.{Entire}
 use Rattle.rr_engine.specs.declared.inputs.Trouble.{Trouble}
 use Rattle.rr_engine.specs.declared.inputs.Trouble.TheVariants as trouble_is
 use Rattle.rr_engine.specs.Feed.{Feed, Source, IsInput, IsOver, IsSound, Receives, event_of_item}
 use Rattle.rr_engine.specs.Windows.{Remainder, Unreceived, Left, nothing_left}
-use Rattle.rr_engine.specs.Recording.{Recorded, Goes, Enters, IsOwed, IsNoTurn, Rests, Stops, or_memory}
+use Rattle.rr_engine.specs.Recording.{Recorded, Goes, Enters, IsOwed, Rests, Stops, or_memory}
 use Rattle.rr_engine.specs.Rounds.{Fills, TookIn}
 use Rattle.rr_engine.proofs.Receiving.{with_feed, receives-unfailed, received-entire, received-breaks, received-no-more, received-stops}
 use Rattle.rr_engine.proofs.Hearing.{ends-count}
 use Rattle.rr_engine.proofs.Joining.{recorded-none, recorded-then, goes-then, broken-to}
-use Rattle.rr_engine.proofs.Entering.{entered, had-input, rest-of, IsWindows}
+use Rattle.rr_engine.proofs.Entering.{entered, had-input, IsWindows}
 use Rattle.rr_engine.proofs.Owing.{owes_piece, owes_packet}
 use Rattle.rr_engine.proofs.Idling.{Typed, types, delivers, open-parts}
 use Rattle.rr_engine.proofs.Endings.{goes-on}

@@ -25,7 +25,7 @@ TakeAlike old new p q =
 -- The replay ends by the recording's END, with the same console bytes; or a device of its own failed,
 -- or memory was refused. It refuses nothing.
 abbrev pub EndsAlike : ℕ → ℕ → Devices → Devices → Played → Played → ReplayEnd → Type 0
-EndsAlike reason code old new p q (End r c) =
+EndsAlike reason code old new p q (End r c accepted turns) =
     (r ≡ reason) × (c ≡ code) × TakeAlike old new p q
 EndsAlike reason code old new p q ConsoleWrite = Rose p.console_faults q.console_faults
 EndsAlike reason code old new p q LogRead = Rose p.log.faults q.log.faults

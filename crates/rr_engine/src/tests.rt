@@ -149,7 +149,8 @@ fn typing<L: Ledger>(rt: &impl Abort, alloc: Global, blank: Blank) -> Result<(),
         assert_eq!(rt; &log.bytes()[98..], events);
         assert_eq!(rt; out.into_inner().bytes(), console);
         let (ended, shown) = replay(alloc, &ECHO, log.bytes(), &[], &mut steps)?;
-        let whole = matches!(&ended, ReplayEnd::End { reason: again, code: 0 } if *again == reason);
+        let whole =
+            matches!(&ended, ReplayEnd::End { reason: again, code: 0, .. } if *again == reason);
         assert!(rt; whole);
         assert_eq!(rt; shown.as_slice(), console);
     }
@@ -204,7 +205,10 @@ fn reading<L: Ledger>(rt: &impl Abort, alloc: Global, blank: Blank) -> Result<()
     for chunks in [&[] as &[usize], &[1; 200]] {
         let (end, _) = replay(alloc, &TIMER, log.bytes(), chunks, &mut steps)?;
         let end = format!(in alloc; "{:?}", end)?;
-        assert_eq!(rt; end.as_str(), "End { reason: 0, code: 0 }");
+        assert_eq!(rt;
+            end.as_str(),
+            "End { reason: 0, code: 0, accepted: 5, turns: 15 }"
+        );
     }
     Ok(())
 }

@@ -2,7 +2,7 @@
 -- log that is accepted whole gives the status of its END, one with a first wrong event is refused,
 -- and one that is longer than what is read and not wrong so far is too long.
 use Rattle.std.proofs.Common.{◌≡◌, ◌<◌, ◌^◌, ◌+◌, ◌≤◌, ◌⊎◌, inl, inr, ℕ, List, [], ◌∷◌, ◌++◌, length, drop, refl, sym, ap, ◌∙◌, subst, arith, append_assoc}
-use Rattle.std.specs.Prelude.{Some, None, Result, Ok, Err, IfSome}
+use Rattle.std.specs.Prelude.{Some, None, Result, Ok, Err, IfSome, ⊤}
 use Rattle.std.specs.declared.option.Option.{Option}
 use Rattle.outside.specs.Causes.{Rose, Stood}
 use Rattle.outside.specs.Ledger.{Ledger}
@@ -29,7 +29,7 @@ use Rattle.log_order.proofs.Verdicts.{one-whole, whole-right, one-wrong}
 use Rattle.run_files.specs.declared.difference.Difference.{Difference}
 use Rattle.run_files.specs.declared.difference.Difference.TheVariants as difference
 use Rattle.commands.specs.declared.outcome.Outcome.{Outcome}
-use Rattle.commands.specs.declared.outcome.Outcome.TheVariants.{Printed, GuestEnded, IdleForEver, BudgetReached, BadWord, WordsMissing, CannotOpen, CannotRead, ConsoleUnreadable, ConsoleFailed, LogFailed, LogUnreadable, BadFirmware, RecordingStopped, HeaderRefused, LogRefused, ImagesDiffer, LogTooLong, QuietFailed, NoMemory}
+use Rattle.commands.specs.declared.outcome.Outcome.TheVariants.{Printed, GuestEnded, IdleForEver, BudgetReached, BadWord, WordsMissing, CannotOpen, CannotRead, ConsoleUnreadable, ConsoleFailed, LogFailed, LogUnreadable, BadFirmware, RecordingStopped, HeaderRefused, LogRefused, ImagesDiffer, LogTooLong, QuietFailed, CommandsUnreadable, TooMuchInput, NoMemory}
 use Rattle.run_files.specs.Ledgers.{CountsStood}
 use Rattle.commands.specs.Outcomes.{status_of}
 use Rattle.run_files.specs.Images.{IsBadImage}
@@ -37,12 +37,13 @@ use Rattle.run_files.specs.Headers.{HasHeader, IsBadHeader}
 use Rattle.commands.specs.Replays.{word_difference, Starts, IsDifferent, IsReplayed, IsRefusedLog, IsReplayedToLimit, IsTooLong, IsUndecided, IsWrongLog, IsReplayable, IsRefusable, read_of}
 use Rattle.run_files.proofs.Headed.{one-header}
 use Rattle.commands.proofs.LogLimits.{all-read}
-use Rattle.commands.specs.Causes.{Cause, ReplayCause, IfBoth}
+use Rattle.commands.specs.Causes.{ReplayCause, IfBoth}
+use Rattle.rrvm.specs.Causes.{Cause}
 use Rattle.rrvm.specs.Answers.{Explained, ending_status}
 
 -- ---- a log and a file have one header, one image and one verdict
 
-no-bad-header : (log : List ℕ) (h : Header) (offset : ℕ) → HasHeader log h → IsBadHeader log offset
+pub no-bad-header : (log : List ℕ) (h : Header) (offset : ℕ) → HasHeader log h → IsBadHeader log offset
     → ⊥
 no-bad-header log h offset has (inl short) =
     let same = one_headers log (Ok h) (Err (parse.Cut offset)) (has.is, has.stands) short in
@@ -96,7 +97,7 @@ whole-not-wrong log start whole mid last refusal short w x =
     x.first) w
 
 -- a log that is too long and undecided isn't wrong
-long-not-wrong : (log : List ℕ) (start there mid last : State) (refusal : Refusal)
+pub long-not-wrong : (log : List ℕ) (start there mid last : State) (refusal : Refusal)
     → 2 ^ 40 < length log → IsUndecided (drop 98 (read_of log)) start there
     → IsWrongLog log start refusal mid last → ⊥
 long-not-wrong log start there mid last refusal long (inl whole) x =
@@ -108,10 +109,10 @@ long-not-wrong log start there mid last refusal long (inr (cut, after, first, is
 
 -- ---- what can't come to a replay that starts
 
-rose-stood : (before now : ℕ) → Rose before now → Stood before now → ⊥
+pub rose-stood : (before now : ℕ) → Rose before now → Stood before now → ⊥
 rose-stood before now rose stood = omega (arith, rose, stood)
 
-no-bad-image : (r : Replaying) (log file : List ℕ) (h k : Header) (f : Loaded) (rule : LoadError)
+pub no-bad-image : (r : Replaying) (log file : List ℕ) (h k : Header) (f : Loaded) (rule : LoadError)
     → Starts r log file h f → HasHeader log k → IsBadImage k file rule → ⊥
 no-bad-image r log file h k f rule s has (inl (same, broken)) =
     let header : h ≡ k = one-header log h k s.has has in
@@ -130,7 +131,7 @@ not-different r log file h f difference.Firmware s k = k.1.0 s.image.same
 not-different r log file h f difference.DiskLength s k = k.1.1 s.disk.length
 not-different r log file h f difference.Disk s k = k.1.2 s.disk.digest
 
-no-difference : (r : Replaying) (log file : List ℕ) (held : Option (List ℕ)) (h k : Header)
+pub no-difference : (r : Replaying) (log file : List ℕ) (held : Option (List ℕ)) (h k : Header)
     (f : Loaded) (which : Difference) → held ≡ Some file
     → Starts r log file h f → HasHeader log k → IsDifferent r k held which → ⊥
 no-difference r log file held h k f which told s has d =
@@ -145,7 +146,7 @@ pub if-told : (o : Option (List ℕ)) (log : List ℕ) (P : List ℕ → Type 0)
     → P log
 if-told o log P told k = subst (λ (z : Option (List ℕ)). IfSome z P) told k
 
-both-told : (o held : Option (List ℕ)) (log file : List ℕ) (P : List ℕ → List ℕ → Type 0)
+pub both-told : (o held : Option (List ℕ)) (log file : List ℕ) (P : List ℕ → List ℕ → Type 0)
     → o ≡ Some log → held ≡ Some file → IfBoth o held P → P log file
 both-told o held log file P told firmware k =
     subst (λ (z : Option (List ℕ)). IfBoth (Some log) z P) firmware
@@ -168,6 +169,43 @@ ended-comes r log file old new reason code told held k =
     (λ xs ys. IsReplayed r xs ys new reason code) told held k in
     inl (reason, code, replayed, refl)
 
+-- the outcomes of a log that isn't run to its end
+abbrev pub IsEarly : Outcome → Type 0
+IsEarly (CannotOpen role) = ⊤
+IsEarly CannotRead = ⊤
+IsEarly LogUnreadable = ⊤
+IsEarly (BadFirmware rule) = ⊤
+IsEarly (HeaderRefused offset) = ⊤
+IsEarly (ImagesDiffer which) = ⊤
+IsEarly other = ⊥
+
+-- none of these comes where the images are those of the log's header and nothing fails
+pub never-early : (r : Replaying) (log file : List ℕ) (h : Header) (f : Loaded) (old new : Ledger)
+    (outcome : Outcome)
+    → old.names r.log ≡ Some log → old.names r.bios ≡ Some file → Starts r log file h f
+    → CountsStood old new → IsEarly outcome
+    → ReplayCause r (old.names r.log) old new
+    (Rose (at old.faults LogIn) (at new.faults LogIn)) outcome → ⊥
+never-early r log file h f old new (CannotOpen role) told held s stood early k =
+    rose-stood _ _ k.counted stood.opening
+never-early r log file h f old new CannotRead told held s stood early k =
+    rose-stood _ _ k stood.firmware
+never-early r log file h f old new LogUnreadable told held s stood early k =
+    rose-stood _ _ k stood.replayed_log
+never-early r log file h f old new (BadFirmware rule) told held s stood early k =
+    let bad = both-told (old.names r.log) (old.names r.bios) log file
+    (λ xs ys. (z : Header) × HasHeader xs z × (word_difference r z ≡ None) × IsBadImage z ys rule)
+    told held k in
+    no-bad-image r log file h bad.0 f rule s bad.1 bad.3
+never-early r log file h f old new (HeaderRefused offset) told held s stood early k =
+    no-bad-header log h offset s.has
+    (if-told (old.names r.log) log (λ xs. IsBadHeader xs offset) told k.0)
+never-early r log file h f old new (ImagesDiffer which) told held s stood early k =
+    let other = if-told (old.names r.log) log
+    (λ xs. (z : Header) × HasHeader xs z × IsDifferent r z (old.names r.bios) which) told k in
+    no-difference r log file (old.names r.bios) h other.0 f which held s other.1 other.2
+never-early r log file h f old new outcome told held s stood early k = absurd early
+
 comes : (r : Replaying) (log file : List ℕ) (h : Header) (f : Loaded) (old new : Ledger)
     (outcome : Outcome)
     → old.names r.log ≡ Some log → old.names r.bios ≡ Some file → Starts r log file h f
@@ -175,49 +213,38 @@ comes : (r : Replaying) (log file : List ℕ) (h : Header) (f : Loaded) (old new
     → ReplayCause r (old.names r.log) old new
     (Rose (at old.faults LogIn) (at new.faults LogIn)) outcome
     → Comes r log file new (status_of outcome)
-comes r log file h f old new Printed told held s stood k = absurd k
 comes r log file h f old new (GuestEnded code) told held s stood k =
     ended-comes r log file old new 0 code told held k
 comes r log file h f old new IdleForEver told held s stood k =
     ended-comes r log file old new 1 0 told held k
 comes r log file h f old new BudgetReached told held s stood k =
     ended-comes r log file old new 2 0 told held k
-comes r log file h f old new (BadWord number) told held s stood k = absurd k
-comes r log file h f old new WordsMissing told held s stood k = absurd k
-comes r log file h f old new (CannotOpen role) told held s stood k =
-    absurd (rose-stood _ _ k.counted stood.opening)
-comes r log file h f old new CannotRead told held s stood k =
-    absurd (rose-stood _ _ k stood.firmware)
-comes r log file h f old new ConsoleUnreadable told held s stood k = absurd k
-comes r log file h f old new ConsoleFailed told held s stood k =
-    absurd (rose-stood _ _ k.0 stood.console)
-comes r log file h f old new LogFailed told held s stood k = absurd k
-comes r log file h f old new LogUnreadable told held s stood k =
-    absurd (rose-stood _ _ k stood.replayed_log)
-comes r log file h f old new (BadFirmware rule) told held s stood k =
-    let bad = both-told (old.names r.log) (old.names r.bios) log file
-    (λ xs ys. (z : Header) × HasHeader xs z × (word_difference r z ≡ None) × IsBadImage z ys rule)
-    told held k in
-    absurd (no-bad-image r log file h bad.0 f rule s bad.1 bad.3)
 comes r log file h f old new RecordingStopped told held s stood k =
     ended-comes r log file old new 3 0 told held k
-comes r log file h f old new (HeaderRefused offset) told held s stood k =
-    absurd (no-bad-header log h offset s.has
-    (if-told (old.names r.log) log (λ xs. IsBadHeader xs offset) told k.0))
 comes r log file h f old new (LogRefused refusal) told held s stood k =
     let refused = both-told (old.names r.log) (old.names r.bios) log file
     (λ xs ys. IsRefusedLog r xs ys new refusal) told held k in
     inr (inl (refusal, refused, refl))
-comes r log file h f old new (ImagesDiffer which) told held s stood k =
-    let other = if-told (old.names r.log) log
-    (λ xs. (z : Header) × HasHeader xs z × IsDifferent r z (old.names r.bios) which) told k in
-    absurd (no-difference r log file (old.names r.bios) h other.0 f which held s other.1 other.2)
 comes r log file h f old new LogTooLong told held s stood k =
     let long = both-told (old.names r.log) (old.names r.bios) log file
     (λ xs ys. IsReplayedToLimit r xs ys new) told held k in
     inr (inr (inl (long, refl)))
-comes r log file h f old new QuietFailed told held s stood k = absurd k
+comes r log file h f old new ConsoleFailed told held s stood k =
+    absurd (rose-stood _ _ k.0 stood.console)
 comes r log file h f old new NoMemory told held s stood k = inr (inr (inr refl))
+comes r log file h f old new (CannotOpen role) told held s stood k =
+    absurd (never-early r log file h f old new (CannotOpen role) told held s stood tt k)
+comes r log file h f old new CannotRead told held s stood k =
+    absurd (never-early r log file h f old new CannotRead told held s stood tt k)
+comes r log file h f old new LogUnreadable told held s stood k =
+    absurd (never-early r log file h f old new LogUnreadable told held s stood tt k)
+comes r log file h f old new (BadFirmware rule) told held s stood k =
+    absurd (never-early r log file h f old new (BadFirmware rule) told held s stood tt k)
+comes r log file h f old new (HeaderRefused offset) told held s stood k =
+    absurd (never-early r log file h f old new (HeaderRefused offset) told held s stood tt k)
+comes r log file h f old new (ImagesDiffer which) told held s stood k =
+    absurd (never-early r log file h f old new (ImagesDiffer which) told held s stood tt k)
+comes r log file h f old new outcome told held s stood k = absurd k
 
 explained-comes : (words : List (List ℕ)) (line : Reading) (old new : Ledger) (status : ℕ)
     → Explained words line old new status

@@ -17,13 +17,14 @@ use Rattle.log_order.proofs.Recorded.{recorded-whole}
 use Rattle.log_order.proofs.Verdicts.{one-whole}
 use Rattle.board.specs.Reset.{start_of}
 use Rattle.commands.specs.declared.outcome.Outcome.{Outcome}
-use Rattle.commands.specs.declared.outcome.Outcome.TheVariants.{Printed, GuestEnded, IdleForEver, BudgetReached, BadWord, WordsMissing, CannotOpen, CannotRead, ConsoleUnreadable, ConsoleFailed, LogFailed, LogUnreadable, BadFirmware, RecordingStopped, HeaderRefused, LogRefused, ImagesDiffer, LogTooLong, QuietFailed, NoMemory}
+use Rattle.commands.specs.declared.outcome.Outcome.TheVariants.{Printed, GuestEnded, IdleForEver, BudgetReached, BadWord, WordsMissing, CannotOpen, CannotRead, ConsoleUnreadable, ConsoleFailed, LogFailed, LogUnreadable, BadFirmware, RecordingStopped, HeaderRefused, LogRefused, ImagesDiffer, LogTooLong, QuietFailed, CommandsUnreadable, TooMuchInput, NoMemory}
 use Rattle.commands.specs.Outcomes.{status_of}
 use Rattle.run_files.specs.Headers.{header_of}
 use Rattle.commands.specs.Recordings.{IsRecorded}
 use Rattle.commands.specs.Replays.{Starts, IsReplayed, IsReplayable, IsRefusedLog}
 use Rattle.rrvm.specs.ReplayedAlike.{Agrees, TookAlike, IsReplayedAlike}
-use Rattle.commands.specs.Causes.{Cause, RecordCause, IsEnded}
+use Rattle.commands.specs.Causes.{RecordCause, IsEnded}
+use Rattle.rrvm.specs.Causes.{Cause}
 use Rattle.rrvm.specs.Answers.{Explained, HasRun, ending_status}
 use Rattle.run_files.proofs.Headed.{behind-text, begins}
 use Rattle.rrvm.proofs.Completing.{same-start, whole-not-wrong, ending, some-ended, if-told}
@@ -150,6 +151,8 @@ ended r old new (LogRefused refusal) k run = absurd k
 ended r old new (ImagesDiffer which) k run = absurd k
 ended r old new LogTooLong k run = absurd k
 ended r old new QuietFailed k run = absurd k
+ended r old new CommandsUnreadable k run = absurd k
+ended r old new TooMuchInput k run = absurd k
 ended r old new NoMemory k run = let no = runs-so 30 run in absurd cc
 
 pub replayable-told : (words : List (List ℕ)) (line : Reading) (old new : Ledger) (status : ℕ)

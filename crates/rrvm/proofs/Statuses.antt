@@ -1,12 +1,13 @@
 -- What a status says of its outcome, and so of its cause.
 use Rattle.std.proofs.Common.{◌≡◌, ◌⊎◌, inl, inr, ℕ, Bool, true, false, List, [], ◌∷◌, refl, sym, ap, ◌∙◌, subst}
-use Rattle.std.specs.Prelude.{Some, None, IfSome, ◌==◌, codes, if◌then◌else◌}
+use Rattle.std.specs.Prelude.{Some, None, IfSome, ◌==◌, codes, if◌then◌else◌, Result, Ok, Err, ⊤}
 use Rattle.std.specs.Str.{bytes_eq}
 use Rattle.std.proofs.lemmas.Bool.{eqb-true}
+use Rattle.command_line.specs.Icount.{name_of}
 use Rattle.command_line.specs.Number.{number_in}
 use Rattle.std.specs.declared.option.Option.{Option}
 use Rattle.outside.specs.Ledger.{Ledger}
-use Rattle.command_line.specs.Words.{Recording, Reading, Records, Replays, Demonstrates, Help, Version, Bad, Early, demo_letters, demo_reading, quiet_reading}
+use Rattle.command_line.specs.Words.{Recording, Run, Reading, Records, Replays, Debugs, Checks, Lists, Demonstrates, Help, Version, Bad, Early, demo_letters, demo_reading, listed_log, events_reading, run_bios, after_bios, run_option, run_log, run_words, run_reading, Command, DebugCommand, CheckCommand, EventsCommand, DemoCommand, command_of, command_reading, command_or, quiet_reading}
 use Rattle.elf_load.specs.declared.error.LoadError.{LoadError}
 use Rattle.commands.specs.declared.outcome.Outcome.{Outcome}
 use Rattle.commands.specs.declared.outcome.Outcome.TheVariants.{Printed, GuestEnded, IdleForEver, BudgetReached, BadFirmware, RecordingStopped, HeaderRefused, LogRefused, NoMemory}
@@ -14,7 +15,8 @@ use Rattle.run_files.specs.Ledgers.{CountsKept}
 use Rattle.commands.specs.Faults.{KeptBut, NamesFault, NamesFirstFault, IsFaultless}
 use Rattle.commands.specs.Outcomes.{status_of}
 use Rattle.run_files.specs.Firmwares.{IsBadFirmware}
-use Rattle.commands.specs.Causes.{Cause, RecordCause, IfRecords, Names, IsEnded, IsPrinted}
+use Rattle.commands.specs.Causes.{RecordCause, IfRecords, IsEnded}
+use Rattle.rrvm.specs.Causes.{Cause, Names, IsPrinted}
 use Rattle.rrvm.specs.Answers.{Explained}
 
 ended-eight : (b : Bool) → ◌≡◌ {A = ℕ} (if b then 0 else 10) 8 → ⊥
@@ -48,12 +50,7 @@ bad-firmware : (r : Reading) (old new : Ledger) (rule : LoadError)
     → Cause r old new (BadFirmware rule)
     → IfRecords r old (λ words file. (x : LoadError) × IsBadFirmware file words.ram_mib x)
 bad-firmware (Records words) old new rule k = some-rule (old.names words.bios) words rule k
-bad-firmware (Replays words) old new rule k = tt
-bad-firmware (Demonstrates n) old new rule k = tt
-bad-firmware Help old new rule k = tt
-bad-firmware Version old new rule k = tt
-bad-firmware (Bad n) old new rule k = tt
-bad-firmware Early old new rule k = tt
+bad-firmware other old new rule k = tt
 
 pub bad-firmware-told : (words : List (List ℕ)) (r : Reading) (old new : Ledger) (status : ℕ)
     → Explained words r old new status
@@ -67,13 +64,11 @@ guest-ended : (r : Reading) (old new : Ledger) (code : ℕ) → Cause r old new 
     → IsEnded r old new 0 code
 guest-ended (Records words) old new code k = k
 guest-ended (Replays words) old new code k = k
-guest-ended (Demonstrates n) old new code k = absurd k
-guest-ended Help old new code k = absurd k
-guest-ended Version old new code k = absurd k
 guest-ended (Bad n) old new code (inl e) = absurd cc
 guest-ended (Bad n) old new code (inr e) = absurd cc
 guest-ended Early old new code (inl e) = absurd cc
 guest-ended Early old new code (inr e) = absurd cc
+guest-ended other old new code k = absurd k
 
 pub guest-ended-told : (words : List (List ℕ)) (r : Reading) (old new : Ledger) (status : ℕ)
     → Explained words r old new status
@@ -96,19 +91,15 @@ passes Printed e = inl refl
 passes (GuestEnded code) e = inr (ap GuestEnded (eqb-true code 0 (code-zero (code == 0) e)))
 passes outcome e = absurd cc
 
-printed : (r : Reading) (old new : Ledger) → Cause r old new Printed → IsPrinted r new
-printed (Records words) old new k = absurd k
-printed (Replays words) old new k = absurd k
-printed (Demonstrates n) old new k = k
-printed Help old new k = k
-printed Version old new k = k
+printed : (r : Reading) (old new : Ledger) → Cause r old new Printed → IsPrinted r old new
 printed (Bad n) old new (inl e) = absurd cc
 printed (Bad n) old new (inr e) = absurd cc
 printed Early old new (inl e) = absurd cc
 printed Early old new (inr e) = absurd cc
+printed r old new k = k
 
 passed : (r : Reading) (old new : Ledger) (outcome : Outcome) → Cause r old new outcome
-    → (outcome ≡ Printed) ⊎ (outcome ≡ GuestEnded 0) → IsPrinted r new ⊎ IsEnded r old new 0 0
+    → (outcome ≡ Printed) ⊎ (outcome ≡ GuestEnded 0) → IsPrinted r old new ⊎ IsEnded r old new 0 0
 passed r old new outcome k (inl e) =
     inl (printed r old new (subst (λ (z : Outcome). Cause r old new z) e k))
 passed r old new outcome k (inr e) =
@@ -116,38 +107,94 @@ passed r old new outcome k (inr e) =
 
 pub passed-told : (words : List (List ℕ)) (r : Reading) (old new : Ledger) (status : ℕ)
     → Explained words r old new status
-    → status ≡ 0 → IsPrinted r new ⊎ IsEnded r old new 0 0
+    → status ≡ 0 → IsPrinted r old new ⊎ IsEnded r old new 0 0
 passed-told words r old new status x e =
     passed r old new x.outcome x.cause (passes x.outcome (sym x.is_status ∙ e))
 
--- a quiet command runs no machine over the world
-letters-quiet : (o : Option ℕ) (rest : List (List ℕ)) (old new : Ledger)
-    → IsEnded (demo_letters o rest) old new 0 0 → ⊥
-letters-quiet None rest old new k = k
-letters-quiet (Some n) [] old new k = k
-letters-quiet (Some n) (word ∷ rest) old new k = k
+-- ---- a quiet command records and replays nothing
 
-demo-quiet : (rest : List (List ℕ)) (old new : Ledger) → IsEnded (demo_reading rest) old new 0 0 → ⊥
-demo-quiet [] old new k = k
-demo-quiet (n ∷ rest) old new k = letters-quiet (number_in 1 2000 n) rest old new k
+-- the words don't ask for a run that ends with a guest's code
+abbrev RunsNothing : Reading → Type 0
+RunsNothing r = (old new : Ledger) → IsEnded r old new 0 0 → ⊥
 
-quiet-reading : (b : Bool) (rest : List (List ℕ)) (old new : Ledger)
-    → IsEnded (if b then demo_reading rest else Bad 0) old new 0 0 → ⊥
-quiet-reading true rest old new k = demo-quiet rest old new k
-quiet-reading false rest old new k = k
+letters-quiet : (o : Option ℕ) (rest : List (List ℕ)) → RunsNothing (demo_letters o rest)
+letters-quiet None rest = λ old new k. k
+letters-quiet (Some n) [] = λ old new k. k
+letters-quiet (Some n) (word ∷ rest) = λ old new k. k
 
-quiet : (words : List (List ℕ)) (old new : Ledger) → IsEnded (quiet_reading words) old new 0 0 → ⊥
-quiet [] old new k = k
-quiet (word ∷ rest) old new k = quiet-reading (bytes_eq word (codes "demo")) rest old new k
+demo-quiet : (rest : List (List ℕ)) → RunsNothing (demo_reading rest)
+demo-quiet [] = λ old new k. k
+demo-quiet (n ∷ rest) = letters-quiet (number_in 1 2000 n) rest
+
+log-quiet : (o : Option (List ℕ)) (rest : List (List ℕ)) → RunsNothing (listed_log o rest)
+log-quiet None rest = λ old new k. k
+log-quiet (Some log) [] = λ old new k. k
+log-quiet (Some log) (word ∷ rest) = λ old new k. k
+
+events-quiet : (rest : List (List ℕ)) → RunsNothing (events_reading rest)
+events-quiet [] = λ old new k. k
+events-quiet (word ∷ rest) = log-quiet (name_of word) rest
+
+-- what words that name no run are
+abbrev ErrQuiet : Result Run Reading → Type 0
+ErrQuiet (Ok run) = ⊤
+ErrQuiet (Err other) = RunsNothing other
+
+bios-quiet : (log : List ℕ) (o : Option (List ℕ)) (rest : List (List ℕ))
+    → ErrQuiet (run_bios log o rest)
+bios-quiet log None rest = λ old new k. k
+bios-quiet log (Some bios) [] = tt
+bios-quiet log (Some bios) (word ∷ rest) = λ old new k. k
+
+after-quiet : (log : List ℕ) (rest : List (List ℕ)) → ErrQuiet (after_bios log rest)
+after-quiet log [] = λ old new k. k
+after-quiet log (word ∷ rest) = bios-quiet log (name_of word) rest
+
+option-quiet : (log : List ℕ) (b : Bool) (rest : List (List ℕ))
+    → ErrQuiet (if b then after_bios log rest else Err (Bad 2))
+option-quiet log true rest = after-quiet log rest
+option-quiet log false rest = λ old new k. k
+
+run-option-quiet : (log : List ℕ) (rest : List (List ℕ)) → ErrQuiet (run_option log rest)
+run-option-quiet log [] = λ old new k. k
+run-option-quiet log (word ∷ rest) = option-quiet log (bytes_eq word (codes "-bios")) rest
+
+run-log-quiet : (o : Option (List ℕ)) (rest : List (List ℕ)) → ErrQuiet (run_log o rest)
+run-log-quiet None rest = λ old new k. k
+run-log-quiet (Some log) rest = run-option-quiet log rest
+
+run-words-quiet : (rest : List (List ℕ)) → ErrQuiet (run_words rest)
+run-words-quiet [] = λ old new k. k
+run-words-quiet (word ∷ rest) = run-log-quiet (name_of word) rest
+
+debug-quiet : (r : Result Run Reading) → ErrQuiet r → RunsNothing (run_reading Debugs r)
+debug-quiet (Ok run) k = λ old new ended. ended
+debug-quiet (Err other) k = k
+
+check-quiet : (r : Result Run Reading) → ErrQuiet r → RunsNothing (run_reading Checks r)
+check-quiet (Ok run) k = λ old new ended. ended
+check-quiet (Err other) k = k
+
+command-quiet : (command : Option Command) (rest : List (List ℕ))
+    → RunsNothing (command_or command rest (Bad 0))
+command-quiet None rest = λ old new k. k
+command-quiet (Some DebugCommand) rest = debug-quiet (run_words rest) (run-words-quiet rest)
+command-quiet (Some CheckCommand) rest = check-quiet (run_words rest) (run-words-quiet rest)
+command-quiet (Some EventsCommand) rest = events-quiet rest
+command-quiet (Some DemoCommand) rest = demo-quiet rest
+
+quiet : (words : List (List ℕ)) → RunsNothing (quiet_reading words)
+quiet [] = λ old new k. k
+quiet (word ∷ rest) = command-quiet (command_of word) rest
 
 only-printed : (r : Reading) (old new : Ledger) → (IsEnded r old new 0 0 → ⊥)
-    → IsPrinted r new ⊎ IsEnded r old new 0 0 → IsPrinted r new
+    → IsPrinted r old new ⊎ IsEnded r old new 0 0 → IsPrinted r old new
 only-printed r old new never (inl p) = p
 only-printed r old new never (inr e) = absurd (never e)
 
 pub quiet-told : (words : List (List ℕ)) (old new : Ledger) (status : ℕ)
     → Explained words (quiet_reading words) old new status → status ≡ 0
-    → IsPrinted (quiet_reading words) new
+    → IsPrinted (quiet_reading words) old new
 quiet-told words old new status x e =
     only-printed (quiet_reading words) old new (quiet words old new)
     (passed-told words (quiet_reading words) old new status x e)
@@ -189,12 +236,7 @@ first-kept old mid outcome run k = absurd cc
 names-kept : (r : Reading) (old mid : Ledger) (outcome : Outcome)
     → IsFaultless (status_of outcome) → Names r outcome old mid → CountsKept old mid
 names-kept (Records words) old mid outcome run k = first-kept old mid outcome run k
-names-kept (Replays words) old mid outcome run k = named-kept old mid outcome run k
-names-kept (Demonstrates n) old mid outcome run k = named-kept old mid outcome run k
-names-kept Help old mid outcome run k = named-kept old mid outcome run k
-names-kept Version old mid outcome run k = named-kept old mid outcome run k
-names-kept (Bad n) old mid outcome run k = named-kept old mid outcome run k
-names-kept Early old mid outcome run k = named-kept old mid outcome run k
+names-kept other old mid outcome run k = named-kept old mid outcome run k
 
 pub unfaulted-told : (words : List (List ℕ)) (r : Reading) (old new : Ledger) (status : ℕ)
     → Explained words r old new status → IsFaultless status → CountsKept old new

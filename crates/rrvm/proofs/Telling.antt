@@ -6,23 +6,37 @@ use Rattle.outside.specs.Causes.{Rose, Stood}
 use Rattle.outside.specs.Told.{Takes, TakesFront}
 use Rattle.outside.specs.Ledger.{Ledger}
 use Rattle.outside.specs.Roles.{at}
-use Rattle.outside.specs.declared.roles.Role.TheVariants.{ConsoleOut, LogIn, LogOut, Messages}
-use Rattle.command_line.specs.Words.{Recording, Replaying, Reading, Records, Replays, Demonstrates, Help, Version, Bad, Early}
+use Rattle.outside.specs.declared.roles.Role.TheVariants.{ConsoleIn, ConsoleOut, LogIn, LogOut, Firmware, Messages}
+use Rattle.command_line.specs.Words.{Recording, Replaying, Reading, Records, Replays, Debugs, Checks, Lists, Demonstrates, Help, Version, Bad, Early}
 use Rattle.log_order.specs.declared.refusal.Refusal.{Refusal}
 use Rattle.rr_engine.specs.Input.{Extent, Entire, Part}
 use Rattle.commands.specs.declared.outcome.Outcome.{Outcome}
-use Rattle.commands.specs.declared.outcome.Outcome.TheVariants.{Printed, GuestEnded, IdleForEver, BudgetReached, BadWord, WordsMissing, CannotOpen, CannotRead, ConsoleUnreadable, ConsoleFailed, LogFailed, LogUnreadable, BadFirmware, RecordingStopped, HeaderRefused, LogRefused, ImagesDiffer, LogTooLong, QuietFailed, NoMemory}
+use Rattle.commands.specs.declared.outcome.Outcome.TheVariants.{Printed, GuestEnded, IdleForEver, BudgetReached, BadWord, WordsMissing, CannotOpen, CannotRead, ConsoleUnreadable, ConsoleFailed, LogFailed, LogUnreadable, BadFirmware, RecordingStopped, HeaderRefused, LogRefused, ImagesDiffer, LogTooLong, QuietFailed, CommandsUnreadable, TooMuchInput, NoMemory}
 use Rattle.outside.specs.Openings.{OpensFront}
 use Rattle.outside.specs.declared.openings.Opening.{Opening}
 use Rattle.run_files.specs.Ledgers.{only, only_run, CountsKept, Untouched}
 use Rattle.commands.specs.Faults.{Fault, fault_of, KeptBut, KeptButLog, NamesFault, NamesFirstFault}
 use Rattle.run_files.specs.Files.{FailsToOpen}
-use Rattle.commands.specs.Openings.{openings_of, opening_of, message_openings, OpensAsAsked}
+use Rattle.commands.specs.Openings.{opening_of}
+use Rattle.rrvm.specs.Openings.{openings_of, message_openings, OpensAsAsked}
 use Rattle.commands.specs.Outcomes.{status_of}
 use Rattle.rrvm.specs.Messages.{line_of}
+use Rattle.commands.specs.Asking.{replaying_of}
+use Rattle.commands.specs.declared.printing.TheConstants.{HELP, VERSION}
+use Rattle.run_files.specs.declared.difference.Difference.TheVariants as difference
 use Rattle.commands.specs.Recordings.{IsRecorded, IsRecordedToStop, IsLogged}
 use Rattle.commands.specs.Replays.{IsReplayed, IsRefusedLog, IsReplayedToLimit, IsShown}
-use Rattle.commands.specs.Causes.{Cause, RecordCause, ReplayCause, DemoCause, PrintCause, IfBoth, IfRecords, IfReplays, IfDemonstrates, IfRecording, Names, IsPrinted, IsPrintedFront}
+use Rattle.commands.specs.Causes.{RecordCause, ReplayCause, DemoCause, PrintCause, IfBoth, IfRecords, IfRecording}
+use Rattle.debug_command.specs.Debugs.{IsHeld, IsShown as IsSessionShown}
+use Rattle.debug_command.specs.Causes.{DebugCause, IsHeldTo}
+use Rattle.check_command.specs.Checks.{CheckCause, UnacceptedCause}
+use Rattle.list_command.specs.Lists.{ListCause}
+use Rattle.monitor.specs.declared.sessions.SessionEnd.{SessionEnd}
+use Rattle.monitor.specs.declared.sessions.SessionEnd.TheVariants as session_end
+use Rattle.run_files.specs.Files.{firmware_opening}
+use Rattle.outside.specs.declared.openings.Opening.TheVariants.{Source}
+use Rattle.outside.specs.declared.roles.Role.{Role}
+use Rattle.rrvm.specs.Causes.{Cause, Names, Shows}
 use Rattle.rrvm.specs.Answers.{Explained}
 
 -- the ledger after the messages were said
@@ -116,24 +130,7 @@ logs-stay : (r : Reading) (old mid new : Ledger)
     → IfRecords r old (λ words file. IsLogged words file old mid)
     → IfRecords r old (λ words file. IsLogged words file old (said mid new))
 logs-stay (Records words) old mid new k = logged-stays (old.names words.bios) words old mid new k
-logs-stay (Replays words) old mid new k = tt
-logs-stay (Demonstrates n) old mid new k = tt
-logs-stay Help old mid new k = tt
-logs-stay Version old mid new k = tt
-logs-stay (Bad n) old mid new k = tt
-logs-stay Early old mid new k = tt
-
-shows-stay : (r : Reading) (old mid new : Ledger)
-    → IfReplays r old (λ words log file. IsShown words log file mid)
-    → IfReplays r old (λ words log file. IsShown words log file (said mid new))
-shows-stay (Records words) old mid new k = tt
-shows-stay (Replays words) old mid new k = shown-stays (old.names words.log) (old.names words.bios)
-    words mid new k
-shows-stay (Demonstrates n) old mid new k = tt
-shows-stay Help old mid new k = tt
-shows-stay Version old mid new k = tt
-shows-stay (Bad n) old mid new k = tt
-shows-stay Early old mid new k = tt
+logs-stay other old mid new k = tt
 
 fails-stays : (opening : Opening) (old mid new : Ledger) → FailsToOpen opening old mid
     → FailsToOpen opening old (said mid new)
@@ -145,85 +142,96 @@ untouched-stays old mid new k = record { shown = k.shown; read = k.read }
 record-stays : (r : Recording) (old mid new : Ledger) (outcome : Outcome)
     → RecordCause r old mid outcome
     → RecordCause r old (said mid new) outcome
-record-stays r old mid new Printed k = k
 record-stays r old mid new (GuestEnded code) k = recorded-stays (old.names r.bios) r old mid new 0
     code k
 record-stays r old mid new IdleForEver k = recorded-stays (old.names r.bios) r old mid new 1 0 k
 record-stays r old mid new BudgetReached k = recorded-stays (old.names r.bios) r old mid new 2 0 k
-record-stays r old mid new (BadWord number) k = k
-record-stays r old mid new WordsMissing k = k
 record-stays r old mid new (CannotOpen role) k =
     fails-stays (opening_of (Records r) role) old mid new k
-record-stays r old mid new CannotRead k = k
 record-stays r old mid new ConsoleUnreadable k =
     (k.0, k.1, λ stood. stopped-stays (old.names r.bios) r Entire old mid new (k.2 stood))
 record-stays r old mid new ConsoleFailed k =
     (k.0, k.1, λ stood. stopped-stays (old.names r.bios) r Part old mid new (k.2 stood))
-record-stays r old mid new LogFailed k = k
-record-stays r old mid new LogUnreadable k = k
-record-stays r old mid new (BadFirmware rule) k = k
-record-stays r old mid new RecordingStopped k = k
-record-stays r old mid new (HeaderRefused offset) k = k
-record-stays r old mid new (LogRefused refusal) k = k
-record-stays r old mid new (ImagesDiffer which) k = k
-record-stays r old mid new LogTooLong k = k
-record-stays r old mid new QuietFailed k = k
-record-stays r old mid new NoMemory k = k
+record-stays r old mid new outcome k = k
 
 replay-stays : (r : Replaying) (log : Option (List ℕ)) (old mid new : Ledger) (F : Type 0)
     (outcome : Outcome)
     → ReplayCause r log old mid F outcome → ReplayCause r log old (said mid new) F outcome
-replay-stays r log old mid new F Printed k = k
 replay-stays r log old mid new F (GuestEnded code) k = replayed-stays log (old.names r.bios) r mid
     new 0 code k
 replay-stays r log old mid new F IdleForEver k = replayed-stays log (old.names r.bios) r mid new 1 0
     k
 replay-stays r log old mid new F BudgetReached k = replayed-stays log (old.names r.bios) r mid new 2
     0 k
-replay-stays r log old mid new F (BadWord number) k = k
-replay-stays r log old mid new F WordsMissing k = k
 replay-stays r log old mid new F (CannotOpen role) k =
     fails-stays (opening_of (Replays r) role) old mid new k
-replay-stays r log old mid new F CannotRead k = k
-replay-stays r log old mid new F ConsoleUnreadable k = k
-replay-stays r log old mid new F ConsoleFailed k = k
-replay-stays r log old mid new F LogFailed k = k
-replay-stays r log old mid new F LogUnreadable k = k
-replay-stays r log old mid new F (BadFirmware rule) k = k
 replay-stays r log old mid new F RecordingStopped k = replayed-stays log (old.names r.bios) r mid
     new 3 0 k
 replay-stays r log old mid new F (HeaderRefused offset) k =
     (k.0, untouched-stays old mid new k.1)
 replay-stays r log old mid new F (LogRefused refusal) k = refused-stays log (old.names r.bios) r mid
     new refusal k
-replay-stays r log old mid new F (ImagesDiffer which) k = k
 replay-stays r log old mid new F LogTooLong k = long-stays log (old.names r.bios) r mid new k
-replay-stays r log old mid new F QuietFailed k = k
-replay-stays r log old mid new F NoMemory k = k
+replay-stays r log old mid new F outcome k = k
 
-print-stays : (r : Reading) (old mid new : Ledger) (outcome : Outcome)
-    → (IsPrinted r mid → IsPrinted r (said mid new))
-    → PrintCause r old mid outcome → PrintCause r old (said mid new) outcome
-print-stays r old mid new Printed f k = f k
-print-stays r old mid new (GuestEnded code) f k = k
-print-stays r old mid new IdleForEver f k = k
-print-stays r old mid new BudgetReached f k = k
-print-stays r old mid new (BadWord number) f k = k
-print-stays r old mid new WordsMissing f k = k
-print-stays r old mid new (CannotOpen role) f k = k
-print-stays r old mid new CannotRead f k = k
-print-stays r old mid new ConsoleUnreadable f k = k
-print-stays r old mid new ConsoleFailed f k = k
-print-stays r old mid new LogFailed f k = k
-print-stays r old mid new LogUnreadable f k = k
-print-stays r old mid new (BadFirmware rule) f k = k
-print-stays r old mid new RecordingStopped f k = k
-print-stays r old mid new (HeaderRefused offset) f k = k
-print-stays r old mid new (LogRefused refusal) f k = k
-print-stays r old mid new (ImagesDiffer which) f k = k
-print-stays r old mid new LogTooLong f k = k
-print-stays r old mid new QuietFailed f k = k
-print-stays r old mid new NoMemory f k = k
+print-stays : (text : List ℕ) (old mid new : Ledger) (outcome : Outcome)
+    → PrintCause text old mid outcome → PrintCause text old (said mid new) outcome
+print-stays text old mid new NoMemory k = tt
+print-stays text old mid new outcome k = k
+
+held-stays : (o held : Option (List ℕ)) (refusal : Option Refusal) (end : SessionEnd)
+    (old mid new : Ledger)
+    → IfBoth o held (λ log file. IsHeld log file refusal end old mid)
+    → IfBoth o held (λ log file. IsHeld log file refusal end old (said mid new))
+held-stays None held refusal end old mid new k = tt
+held-stays (Some log) None refusal end old mid new k = tt
+held-stays (Some log) (Some file) refusal end old mid new k =
+    record { script = k.script; part = k.part; serves = k.serves }
+
+held-to-stays : (o held : Option (List ℕ)) (end : SessionEnd) (old mid new : Ledger)
+    → IsHeldTo end o held old mid → IsHeldTo end o held old (said mid new)
+held-to-stays None held end old mid new k = tt
+held-to-stays (Some log) None end old mid new k = tt
+held-to-stays (Some log) (Some file) end old mid new k =
+    (k.0, record { script = k.1.script; part = k.1.part; serves = k.1.serves })
+
+debug-stays : (log bios : List ℕ) (old mid new : Ledger) (outcome : Outcome)
+    → DebugCause log bios old mid outcome → DebugCause log bios old (said mid new) outcome
+debug-stays log bios old mid new Printed k =
+    held-stays (old.names log) (old.names bios) None session_end.Done old mid new k
+debug-stays log bios old mid new (LogRefused r) k =
+    held-stays (old.names log) (old.names bios) (Some r) session_end.Done old mid new k
+debug-stays log bios old mid new (CannotOpen LogIn) k =
+    fails-stays (Source LogIn (Some log)) old mid new k
+debug-stays log bios old mid new (CannotOpen Firmware) k =
+    fails-stays (firmware_opening bios) old mid new k
+debug-stays log bios old mid new CommandsUnreadable k = (
+  k.0,
+  held-to-stays (old.names log) (old.names bios) session_end.ReadFault old mid new k.1,
+)
+debug-stays log bios old mid new QuietFailed k = (
+  k.0,
+  held-to-stays (old.names log) (old.names bios) session_end.WriteFault old mid new k.1,
+)
+debug-stays log bios old mid new TooMuchInput k =
+    held-to-stays (old.names log) (old.names bios) session_end.TooMuchInput old mid new k
+debug-stays log bios old mid new (ImagesDiffer difference.Disk) k = k
+debug-stays log bios old mid new outcome k = k
+
+check-stays : (r : Replaying) (old mid new : Ledger) (outcome : Outcome)
+    → CheckCause r old mid outcome → CheckCause r old (said mid new) outcome
+check-stays r old mid new (CannotOpen role) k =
+    fails-stays (opening_of (Replays r) role) old mid new k
+check-stays r old mid new (HeaderRefused offset) k = (k.0, untouched-stays old mid new k.1)
+check-stays r old mid new outcome k = k
+
+list-stays : (log : List ℕ) (held : Option (List ℕ)) (old mid new : Ledger) (F : Type 0)
+    (outcome : Outcome)
+    → ListCause log held old mid F outcome → ListCause log held old (said mid new) F outcome
+list-stays log held old mid new F (HeaderRefused offset) k = (k.0, untouched-stays old mid new k.1)
+list-stays log held old mid new F (CannotOpen LogIn) k =
+    fails-stays (Source LogIn (Some log)) old mid new k
+list-stays log held old mid new F outcome k = k
 
 demo-stays : (n : ℕ) (old mid new : Ledger) (outcome : Outcome) → DemoCause n old mid outcome
     → DemoCause n old (said mid new) outcome
@@ -236,20 +244,22 @@ cause-stays (Records r) old mid new outcome k = record-stays r old mid new outco
 cause-stays (Replays r) old mid new outcome k =
     replay-stays r (old.names r.log) old mid new (Rose (at old.faults LogIn) (at mid.faults LogIn))
     outcome k
+cause-stays (Debugs r) old mid new outcome k = debug-stays r.log r.bios old mid new outcome k
+cause-stays (Checks r) old mid new outcome k =
+    check-stays (replaying_of r.log r.bios) old mid new outcome k
+cause-stays (Lists log) old mid new outcome k =
+    list-stays log (old.names log) old mid new (Rose (at old.faults LogIn) (at mid.faults LogIn))
+    outcome k
 cause-stays (Demonstrates n) old mid new outcome k = demo-stays n old mid new outcome k
-cause-stays Help old mid new outcome k = print-stays Help old mid new outcome (λ p. p) k
-cause-stays Version old mid new outcome k = print-stays Version old mid new outcome (λ p. p) k
+cause-stays Help old mid new outcome k = print-stays HELP.now old mid new outcome k
+cause-stays Version old mid new outcome k = print-stays VERSION.now old mid new outcome k
 cause-stays (Bad n) old mid new outcome k = k
 cause-stays Early old mid new outcome k = k
 
 no-memory : (r : Reading) (old new : Ledger) → Cause r old new NoMemory
-no-memory (Records r) old new = tt
-no-memory (Replays r) old new = tt
-no-memory (Demonstrates n) old new = tt
-no-memory Help old new = tt
-no-memory Version old new = tt
 no-memory (Bad n) old new = inr refl
 no-memory Early old new = inr refl
+no-memory r old new = tt
 
 told-cause : (r : Reading) (old mid new : Ledger) (outcome told : Outcome) → new ≡ said mid new
     → (told ≡ outcome) ⊎ (told ≡ NoMemory) → Cause r old mid outcome → Cause r old new told
@@ -306,21 +316,11 @@ first-stays outcome old mid new k = named-stays outcome old mid new k
 names-stay : (r : Reading) (outcome : Outcome) (old mid new : Ledger) → Names r outcome old mid
     → Names r outcome old (said mid new)
 names-stay (Records words) outcome old mid new k = first-stays outcome old mid new k
-names-stay (Replays words) outcome old mid new k = named-stays outcome old mid new k
-names-stay (Demonstrates n) outcome old mid new k = named-stays outcome old mid new k
-names-stay Help outcome old mid new k = named-stays outcome old mid new k
-names-stay Version outcome old mid new k = named-stays outcome old mid new k
-names-stay (Bad n) outcome old mid new k = named-stays outcome old mid new k
-names-stay Early outcome old mid new k = named-stays outcome old mid new k
+names-stay other outcome old mid new k = named-stays outcome old mid new k
 
 names-none : (r : Reading) (old new : Ledger) → Names r NoMemory old new
 names-none (Records words) old new = tt
-names-none (Replays words) old new = tt
-names-none (Demonstrates n) old new = tt
-names-none Help old new = tt
-names-none Version old new = tt
-names-none (Bad n) old new = tt
-names-none Early old new = tt
+names-none other old new = tt
 
 told-names : (r : Reading) (old mid new : Ledger) (outcome told : Outcome) → new ≡ said mid new
     → (told ≡ outcome) ⊎ (told ≡ NoMemory) → Names r outcome old mid → Names r told old new
@@ -368,41 +368,39 @@ told-log line r old mid new e same logged more =
     (subst (λ (z : Ledger). IfRecords line old (λ words file. IsLogged words file old z)) (sym same)
     (logs-stay line old mid new told))
 
-pub told-shown : (line r : Reading) (old mid new : Ledger) → line ≡ r → new ≡ said mid new
-    → (at old.opened ConsoleOut < at mid.opened ConsoleOut
-    → IfReplays line old (λ words log file. IsShown words log file mid))
-    → at old.opened ConsoleOut < at new.opened ConsoleOut
-    → IfReplays r old (λ words log file. IsShown words log file new)
-told-shown line r old mid new e same shows more =
+-- ---- what standard output has
+
+session-stays : (o held : Option (List ℕ)) (old mid new : Ledger)
+    → IfBoth o held (λ log file. IsSessionShown log file old mid)
+    → IfBoth o held (λ log file. IsSessionShown log file old (said mid new))
+session-stays None held old mid new k = tt
+session-stays (Some log) None old mid new k = tt
+session-stays (Some log) (Some file) old mid new (inl bare) = inl bare
+session-stays (Some log) (Some file) old mid new (inr k) = inr (record {
+  script = k.script;
+  refusal = k.refusal;
+  part = k.part;
+  read = k.read;
+  began = k.began;
+  front = k.front;
+})
+
+shows-stay : (r : Reading) (old mid new : Ledger) → Shows r old mid → Shows r old (said mid new)
+shows-stay (Replays r) old mid new k =
+    shown-stays (old.names r.log) (old.names r.bios) r mid new k
+shows-stay (Debugs r) old mid new k =
+    session-stays (old.names r.log) (old.names r.bios) old mid new k
+shows-stay other old mid new k = k
+
+pub told-shows : (line r : Reading) (old mid new : Ledger) → line ≡ r → new ≡ said mid new
+    → (at old.opened ConsoleOut < at mid.opened ConsoleOut → Shows line old mid)
+    → at old.opened ConsoleOut < at new.opened ConsoleOut → Shows r old new
+told-shows line r old mid new e same shows more =
     let opened : at new.opened ConsoleOut ≡ at mid.opened ConsoleOut = ap
     (λ (l : Ledger). at l.opened ConsoleOut) same in
     let told = shows (subst (λ (z : ℕ). at old.opened ConsoleOut < z) opened more) in
-    subst (λ (z : Reading). IfReplays z old (λ words log file. IsShown words log file new)) e
-    (subst (λ (z : Ledger). IfReplays line old (λ words log file. IsShown words log file z))
-    (sym same) (shows-stay line old mid new told))
-
-printed-stays : (r : Reading) (mid new : Ledger) → IfDemonstrates r (λ n. IsPrintedFront n mid)
-    → IfDemonstrates r (λ n. IsPrintedFront n (said mid new))
-printed-stays (Demonstrates n) mid new k = k
-printed-stays (Records words) mid new k = tt
-printed-stays (Replays words) mid new k = tt
-printed-stays Help mid new k = tt
-printed-stays Version mid new k = tt
-printed-stays (Bad n) mid new k = tt
-printed-stays Early mid new k = tt
-
-pub told-printed : (line r : Reading) (old mid new : Ledger) → line ≡ r → new ≡ said mid new
-    → (at old.opened ConsoleOut < at mid.opened ConsoleOut
-    → IfDemonstrates line (λ n. IsPrintedFront n mid))
-    → at old.opened ConsoleOut < at new.opened ConsoleOut
-    → IfDemonstrates r (λ n. IsPrintedFront n new)
-told-printed line r old mid new e same prints more =
-    let opened : at new.opened ConsoleOut ≡ at mid.opened ConsoleOut = ap
-    (λ (l : Ledger). at l.opened ConsoleOut) same in
-    let told = prints (subst (λ (z : ℕ). at old.opened ConsoleOut < z) opened more) in
-    subst (λ (z : Reading). IfDemonstrates z (λ n. IsPrintedFront n new)) e
-    (subst (λ (z : Ledger). IfDemonstrates line (λ n. IsPrintedFront n z)) (sym same)
-    (printed-stays line mid new told))
+    subst (λ (z : Reading). Shows z old new) e
+    (subst (λ (z : Ledger). Shows line old z) (sym same) (shows-stay line old mid new told))
 
 pub told-openings : (line r : Reading) (old mid new : Ledger) → line ≡ r
     → OpensFront old.openings mid.openings (openings_of line)

@@ -1,14 +1,16 @@
 -- What the top call answers, by its causes in the ledgers before and after.
-use Rattle.std.specs.Prelude.{◌≡◌, ◌⊎◌, ◌<◌, ℕ, ⊤, List, [], ◌==◌, Some, if◌then◌else◌}
+use Rattle.std.specs.Prelude.{◌≡◌, ◌⊎◌, ◌<◌, ◌≤◌, ◌^◌, ℕ, ⊤, List, [], ◌==◌, length, Some, if◌then◌else◌}
 use Rattle.outside.specs.Causes.{Stood}
 use Rattle.outside.specs.Ledger.{Ledger}
 use Rattle.outside.specs.Told.{Takes, TakesFront}
 use Rattle.outside.specs.Roles.{at}
 use Rattle.outside.specs.declared.roles.Role.TheVariants.{Messages}
-use Rattle.command_line.specs.Words.{Reading}
+use Rattle.command_line.specs.Words.{Run, Reading}
+use Rattle.run_files.specs.Ledgers.{CountsStood}
+use Rattle.debug_command.specs.declared.debugging.TheConstants.{LOG_LIMIT}
 use Rattle.commands.specs.declared.outcome.Outcome.{Outcome}
 use Rattle.commands.specs.declared.outcome.Outcome.TheVariants.{BadWord, WordsMissing}
-use Rattle.commands.specs.Causes.{Cause, Names}
+use Rattle.rrvm.specs.Causes.{Cause, Names}
 use Rattle.commands.specs.Outcomes.{status_of}
 use Rattle.rrvm.specs.Messages.{line_of}
 
@@ -24,6 +26,16 @@ pub record Explained (words : List (List ℕ)) (r : Reading) (old new : Ledger) 
       → TakesFront (Some []) (at new.last Messages) (line_of words r outcome)
   pub all_said : (status ≡ 30 → ⊥) → Stood (at old.faults Messages) (at new.faults Messages)
       → Takes (Some []) (at new.last Messages) (line_of words r outcome)
+
+-- A debugging session whose files and standard input tell their bytes, no more than it takes, and
+-- where no count of faults rises.
+pub record DebugsFreely (r : Run) (log file input : List ℕ) (old new : Ledger) : Type 0 where
+  pub told : old.names r.log ≡ Some log
+  pub held : old.names r.bios ≡ Some file
+  pub heard : old.input ≡ Some input
+  pub short : length log ≤ LOG_LIMIT
+  pub few : length input ≤ 2 ^ 20
+  pub stood : CountsStood old new
 
 -- the words leave the grammar
 abbrev pub IsWordFault : Outcome → Type 0

@@ -1,3 +1,5 @@
+pub mod Openings
+pub mod Causes
 pub mod Texts
 pub mod Messages
 pub mod RawWords

@@ -3,24 +3,29 @@ use Rattle.std.specs.Prelude.{ℕ, ◌==◌, ◌++◌, List, [], codes, if◌the
 use Rattle.std.specs.Fmt.{decimal}
 use Rattle.outside.specs.declared.roles.Role.{Role}
 use Rattle.outside.specs.declared.roles.Role.TheVariants.{Firmware}
-use Rattle.command_line.specs.Words.{Reading, Records, Replays}
+use Rattle.command_line.specs.Words.{Reading, Records, Replays, Debugs, Checks, Lists}
 use Rattle.elf_load.specs.declared.error.LoadError.{LoadError}
 use Rattle.elf_load.specs.declared.error.LoadError.TheVariants as rule
 use Rattle.run_files.specs.declared.difference.Difference.{Difference}
 use Rattle.run_files.specs.declared.difference.Difference.TheVariants as difference
 use Rattle.rrvm.specs.Texts.{refusal_line}
 use Rattle.commands.specs.declared.outcome.Outcome.{Outcome}
-use Rattle.commands.specs.declared.outcome.Outcome.TheVariants.{Printed, GuestEnded, IdleForEver, BudgetReached, BadWord, WordsMissing, CannotOpen, CannotRead, ConsoleUnreadable, ConsoleFailed, LogFailed, LogUnreadable, BadFirmware, RecordingStopped, HeaderRefused, LogRefused, ImagesDiffer, LogTooLong, QuietFailed, NoMemory}
+use Rattle.commands.specs.declared.outcome.Outcome.TheVariants.{Printed, GuestEnded, IdleForEver, BudgetReached, BadWord, WordsMissing, CannotOpen, CannotRead, ConsoleUnreadable, ConsoleFailed, LogFailed, LogUnreadable, BadFirmware, RecordingStopped, HeaderRefused, LogRefused, ImagesDiffer, LogTooLong, QuietFailed, CommandsUnreadable, TooMuchInput, NoMemory}
 
 -- the names that the words give
 abbrev pub bios_name : Reading → List ℕ
 bios_name (Records r) = r.bios
 bios_name (Replays r) = r.bios
+bios_name (Debugs r) = r.bios
+bios_name (Checks r) = r.bios
 bios_name other = []
 
 abbrev pub log_name : Reading → List ℕ
 log_name (Records r) = r.log
 log_name (Replays r) = r.log
+log_name (Debugs r) = r.log
+log_name (Checks r) = r.log
+log_name (Lists log) = log
 log_name other = []
 
 -- the file of a role
@@ -82,4 +87,6 @@ line_of words r (ImagesDiffer which) =
     codes "rrvm: images differ: " ++ difference_name which ++ codes "\n"
 line_of words r LogTooLong = codes "rrvm: log too long\n"
 line_of words r QuietFailed = codes "rrvm: input or output failed\n"
+line_of words r CommandsUnreadable = codes "rrvm: input or output failed\n"
+line_of words r TooMuchInput = codes "rrvm: too much input\n"
 line_of words r NoMemory = codes "rrvm: no memory\n"

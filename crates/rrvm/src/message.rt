@@ -19,6 +19,7 @@ fn bios<'a>(line: &Line<'a>) -> &'a str
     match line {
         Line::Record(words) => words.bios,
         Line::Replay(words) => words.bios,
+        Line::Debug(run) | Line::Check(run) => run.bios,
         _ => "",
     }
 }
@@ -29,6 +30,8 @@ fn log<'a>(line: &Line<'a>) -> &'a str
     match line {
         Line::Record(words) => words.log,
         Line::Replay(words) => words.log,
+        Line::Debug(run) | Line::Check(run) => run.log,
+        Line::Events(log) => log,
         _ => "",
     }
 }
@@ -142,7 +145,10 @@ pub(crate) fn message(
             format!(in alloc; "rrvm: images differ: {name}\n")
         }
         Outcome::LogTooLong => plain(alloc, "rrvm: log too long\n"),
-        Outcome::QuietFailed => plain(alloc, "rrvm: input or output failed\n"),
+        Outcome::QuietFailed | Outcome::CommandsUnreadable => {
+            plain(alloc, "rrvm: input or output failed\n")
+        }
+        Outcome::TooMuchInput => plain(alloc, "rrvm: too much input\n"),
         Outcome::NoMemory => plain(alloc, "rrvm: no memory\n"),
     }
 }

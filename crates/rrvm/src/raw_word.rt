@@ -8,7 +8,7 @@ ghost use Rattle.outside.specs.Openings.{OpensFront};
 ghost use Rattle.outside.specs.Roles.{at};
 ghost use Rattle.outside.specs.declared.roles.Role.TheVariants.{Messages};
 ghost use Rattle.run_files.specs.Ledgers.{only};
-ghost use Rattle.commands.specs.Openings.{message_openings};
+ghost use Rattle.rrvm.specs.Openings.{message_openings};
 ghost use Rattle.rrvm.specs.RawWords.{raw_line};
 
 use crate::message::word;

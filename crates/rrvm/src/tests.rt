@@ -4,6 +4,7 @@ mod demos;
 mod firmwares;
 mod inputs;
 mod memory;
+mod quiet;
 mod replays;
 mod streams;
 mod texts;
@@ -11,6 +12,7 @@ mod texts;
 use crate::top::rrvm_main;
 use outside::{MemWorld, Role};
 use std::alloc::{AllocError, AllocGlobal, Global};
+use std::process::Abort;
 use std::sync::Wait;
 use std::test::Fail;
 use std::thread::Threads;
@@ -48,9 +50,23 @@ const LETTER_LOG: [u8; 109] = [
     0xb8, 0x55, 0x00, 0x00, 0x00, 0x00, 0x07, 0x06, 0x00, 0x00, 0x00, 0x00, 0x00,
 ];
 
-const ICOUNT: &str = "-icount shift=0,rr=record,rrfile=log -bios fw";
+pub(crate) const ICOUNT: &str = "-icount shift=0,rr=record,rrfile=log -bios fw";
 
-fn words(alloc: Global, line: &str) -> Result<Vec<String>, AllocError> {
+// A test is proved line by line with all that it knows, so each keeps to values: worlds are made and
+// run in functions that promise nothing, and rows are calls.
+
+/// What a run left: its status, what was taken, and how often standard input and a log were opened.
+#[derive(Drop)]
+pub(crate) struct Left {
+    pub code: u8,
+    pub console: Vec<u8>,
+    pub log: Vec<u8>,
+    pub messages: Vec<u8>,
+    pub inputs: u64,
+    pub logs: u64,
+}
+
+pub(crate) fn words(alloc: Global, line: &str) -> Result<Vec<String>, AllocError> {
     let mut words = Vec::new(alloc);
     for word in line.split(' ') {
         words.push(String::from_str(alloc, word)?)?;
@@ -58,19 +74,31 @@ fn words(alloc: Global, line: &str) -> Result<Vec<String>, AllocError> {
     Ok(words)
 }
 
-/// The status of these words over a world. It promises nothing, so that a test is proved without the
-/// clauses of the top call.
-fn status_of<R: Threads + Wait + Sync + AllocGlobal>(
+/// What a world tells after a run of this status.
+pub(crate) fn left_of(alloc: Global, code: u8, world: &MemWorld) -> Result<Left, AllocError> {
+    Ok(Left {
+        code,
+        console: world.written(Role::ConsoleOut).to_vec(alloc)?,
+        log: world.written(Role::LogOut).to_vec(alloc)?,
+        messages: world.written(Role::Messages).to_vec(alloc)?,
+        inputs: world.opened(Role::ConsoleIn),
+        logs: world.opened(Role::LogOut),
+    })
+}
+
+/// What these words leave of a world.
+pub(crate) fn left_by<R: Threads + Wait + Sync + AllocGlobal>(
     rt: &R,
     line: &str,
-    world: &mut MemWorld,
-) -> Result<u8, AllocError> {
+    mut world: MemWorld,
+) -> Result<Left, AllocError> {
     let words = words(rt.alloc(), line)?;
-    Ok(rrvm_main(rt, &words, world).code)
+    let code = rrvm_main(rt, &words, &mut world).code;
+    left_of(rt.alloc(), code, &world)
 }
 
 /// A world whose file fw has these words.
-fn world(alloc: Global, guest: &[u32]) -> Result<MemWorld, AllocError> {
+pub(crate) fn world(alloc: Global, guest: &[u32]) -> Result<MemWorld, AllocError> {
     let mut file = Vec::new(alloc);
     for word in guest {
         file.extend_from_slice(&word.to_le_bytes())?;
@@ -80,118 +108,169 @@ fn world(alloc: Global, guest: &[u32]) -> Result<MemWorld, AllocError> {
     Ok(world)
 }
 
+/// A world where this call of a role's devices fails.
+pub(crate) fn failing(
+    alloc: Global,
+    mut world: MemWorld,
+    role: Role,
+    call: u64,
+) -> Result<MemWorld, AllocError> {
+    world.set_failing(role, vec![in alloc; call]?);
+    Ok(world)
+}
+
+/// A world where this named opening fails.
+pub(crate) fn failing_open(
+    alloc: Global,
+    mut world: MemWorld,
+    open: u64,
+) -> Result<MemWorld, AllocError> {
+    world.set_failing_opens(vec![in alloc; open]?);
+    Ok(world)
+}
+
+/// The status, standard output, and the messages.
+pub(crate) fn shows<R: Abort>(rt: &R, left: &Left, code: u8, console: &[u8], said: &str) {
+    assert_eq!(rt; left.messages.as_slice(), said.as_bytes());
+    assert_eq!(rt; left.code, code);
+    assert_eq!(rt; left.console.as_slice(), console);
+}
+
+/// The events of the log.
+pub(crate) fn logs<R: Abort>(rt: &R, left: &Left, events: &[u8]) {
+    assert!(rt; left.log.len() >= 98);
+    assert_eq!(rt; &left.log[98..], events);
+}
+
 #[test]
 fn a_letter_is_recorded_byte_for_byte(rt: HostRuntime) -> Result<(), Fail> {
+    let left = left_by(&rt, ICOUNT, world(rt.alloc(), &LETTER)?)?;
+    shows(&rt, &left, 0, b"A", "");
+    assert_eq!(rt; left.log.as_slice(), LETTER_LOG.as_slice());
+    Ok(())
+}
+
+/// The recording of a guest with further words has this status and these events.
+fn records<R: Threads + Wait + Sync + AllocGlobal + Abort>(
+    rt: &R,
+    more: &str,
+    guest: &[u32],
+    code: u8,
+    events: &[u8],
+) -> Result<(), AllocError> {
     let alloc = rt.alloc();
-    let mut world = world(alloc, &LETTER)?;
-    assert_eq!(rt; status_of(&rt, ICOUNT, &mut world)?, 0);
-    assert_eq!(rt; world.written(Role::LogOut), LETTER_LOG.as_slice());
-    assert_eq!(rt; world.written(Role::ConsoleOut), b"A".as_slice());
-    assert_eq!(rt; world.written(Role::Messages), b"".as_slice());
+    let mut line = String::from_str(alloc, ICOUNT)?;
+    line.push_str(more)?;
+    let left = left_by(rt, line.as_str(), world(alloc, guest)?)?;
+    assert_eq!(rt; left.code, code);
+    logs(rt, &left, events);
+    Ok(())
+}
+
+#[test]
+fn a_recording_has_the_marks_of_its_words(rt: HostRuntime) -> Result<(), Fail> {
+    let jump = [0x0000006f];
+    records(
+        &rt,
+        " -budget 5",
+        &LETTER,
+        13,
+        b"\0\0\0\0\x05\x06\x02\0\0\0\0",
+    )?;
+    records(&rt, " -budget 7", &LETTER, 0, b"\0\0\0\0\x07\x06\0\0\0\0\0")?;
+    records(
+        &rt,
+        " -slice 3",
+        &LETTER,
+        0,
+        b"\0\0\0\0\x03\x05\0\0\0\0\0\x03\x05\0\0\0\0\0\x01\x06\0\0\0\0\0",
+    )?;
+    records(&rt, " -slice 7", &LETTER, 0, b"\0\0\0\0\x07\x06\0\0\0\0\0")?;
+    records(
+        &rt,
+        " -budget 3 -slice 2",
+        &jump,
+        13,
+        b"\0\0\0\0\x02\x05\0\0\0\0\0\x01\x06\x02\0\0\0\0",
+    )?;
+    records(
+        &rt,
+        " -budget 20",
+        &TIMER_LOOP,
+        13,
+        b"\0\0\0\0\x0b\x05\x01\x01\0\0\0\0\x09\x06\x02\0\0\0\0",
+    )?;
     Ok(())
 }
 
 #[test]
 fn guests_have_the_events_of_their_runs(rt: HostRuntime) -> Result<(), Fail> {
-    let alloc = rt.alloc();
-    let ecall: [u32; 1] = [0x00000073];
-    let wait: [u32; 1] = [0x10500073];
-    let jump: [u32; 1] = [0x0000006f];
-    let cases: [(&str, &[u32], u8, &[u8]); 11] = [
-        ("", &STORES, 0, b"\0\0\0\0\x08\x06\0\0\0\0\0"),
-        (" -budget 5", &LETTER, 13, b"\0\0\0\0\x05\x06\x02\0\0\0\0"),
-        (" -budget 7", &LETTER, 0, b"\0\0\0\0\x07\x06\0\0\0\0\0"),
-        (
-            " -slice 3",
-            &LETTER,
-            0,
-            b"\0\0\0\0\x03\x05\0\0\0\0\0\x03\x05\0\0\0\0\0\x01\x06\0\0\0\0\0",
-        ),
-        (" -slice 7", &LETTER, 0, b"\0\0\0\0\x07\x06\0\0\0\0\0"),
-        (
-            " -budget 2",
-            &ecall,
-            13,
-            b"\0\0\0\0\x01\x02\0\0\0\0\x01\x02\x06\x02\0\0\0\0",
-        ),
-        ("", &wait, 12, b"\0\0\0\0\x01\x05\x01\x06\x01\0\0\0\0"),
-        (
-            " -budget 3 -slice 2",
-            &jump,
-            13,
-            b"\0\0\0\0\x02\x05\0\0\0\0\0\x01\x06\x02\0\0\0\0",
-        ),
-        (
-            "",
-            &TIMER,
-            0,
-            b"\0\0\0\0\x0b\x05\x01\x01\0\0\0\0\x04\x06\0\0\0\0\0",
-        ),
-        (
-            " -budget 10",
-            &[],
-            13,
-            b"\0\0\0\0\x01\x02\0\0\0\0\x01\x02\0\0\0\0\x01\x02\0\0\0\0\x01\x02\0\0\0\0\x01\x02\0\0\0\0\x01\x02\
-            \0\0\0\0\x01\x02\0\0\0\0\x01\x02\0\0\0\0\x01\x02\0\0\0\0\x01\x02\x06\x02\0\0\0\0",
-        ),
-        (
-            " -budget 20",
-            &TIMER_LOOP,
-            13,
-            b"\0\0\0\0\x0b\x05\x01\x01\0\0\0\0\x09\x06\x02\0\0\0\0",
-        ),
-    ];
-    for (more, guest, code, events) in cases {
-        let mut world = world(alloc, guest)?;
-        let mut line = String::from_str(alloc, ICOUNT)?;
-        line.push_str(more)?;
-        let status = status_of(&rt, line.as_str(), &mut world)?;
-        assert_eq!(rt; status, code, "{more}");
-        let log = world.written(Role::LogOut);
-        assert!(rt; log.len() >= 98);
-        assert_eq!(rt; &log[98..], events, "{more}");
-    }
+    let ecall = [0x00000073];
+    let wait = [0x10500073];
+    records(&rt, "", &STORES, 0, b"\0\0\0\0\x08\x06\0\0\0\0\0")?;
+    records(
+        &rt,
+        " -budget 2",
+        &ecall,
+        13,
+        b"\0\0\0\0\x01\x02\0\0\0\0\x01\x02\x06\x02\0\0\0\0",
+    )?;
+    records(&rt, "", &wait, 12, b"\0\0\0\0\x01\x05\x01\x06\x01\0\0\0\0")?;
+    records(
+        &rt,
+        "",
+        &TIMER,
+        0,
+        b"\0\0\0\0\x0b\x05\x01\x01\0\0\0\0\x04\x06\0\0\0\0\0",
+    )?;
+    records(
+        &rt,
+        " -budget 10",
+        &[],
+        13,
+        b"\0\0\0\0\x01\x02\0\0\0\0\x01\x02\0\0\0\0\x01\x02\0\0\0\0\x01\x02\0\0\0\0\x01\x02\
+        \0\0\0\0\x01\x02\0\0\0\0\x01\x02\0\0\0\0\x01\x02\0\0\0\0\x01\x02\0\0\0\0\x01\x02\
+        \x06\x02\0\0\0\0",
+    )?;
     Ok(())
 }
 
 #[test]
 fn each_fault_has_its_status_and_message(rt: HostRuntime) -> Result<(), Fail> {
     let alloc = rt.alloc();
-    // The words, the named open, the log write and the console write that fail; the status, the
-    // lengths of log and console, and the message.
-    let cases = [
-        (ICOUNT, 9, 1, 9, 5, 98, 1, "rrvm: log output failed\n"),
-        (ICOUNT, 9, 9, 0, 4, 103, 0, "rrvm: console output failed\n"),
-        (ICOUNT, 9, 0, 9, 5, 0, 0, "rrvm: log output failed\n"),
-        (ICOUNT, 0, 9, 9, 2, 0, 0, "rrvm: cannot open or read fw\n"),
-        (ICOUNT, 1, 9, 9, 2, 0, 0, "rrvm: cannot open or read log\n"),
-        (
-            "-icount shift=11,rr=record,rrfile=a -bios b",
-            9,
-            9,
-            9,
-            1,
-            0,
-            0,
-            "rrvm: bad word 1: shift=11,rr=record,rrfile=a\n",
-        ),
-        ("-bios b", 9, 9, 9, 1, 0, 0, "rrvm: words end early\n"),
-        ("--version", 9, 9, 9, 0, 0, 9, ""),
-    ];
-    for (line, open, log, console, code, log_len, console_len, said) in cases {
-        let mut world = world(alloc, &LETTER)?;
-        world.set_failing_opens(vec![in alloc; open]?);
-        world.set_failing(Role::LogOut, vec![in alloc; log]?);
-        world.set_failing(Role::ConsoleOut, vec![in alloc; console]?);
-        let status = status_of(&rt, line, &mut world)?;
-        assert_eq!(rt; status, code, "{line}");
-        assert_eq!(rt; world.written(Role::LogOut).len(), log_len, "{line}");
-        assert_eq!(rt;
-            world.written(Role::ConsoleOut).len(),
-            console_len,
-            "{line}"
-        );
-        assert_eq!(rt; world.written(Role::Messages), said.as_bytes(), "{line}");
-    }
+    let log = failing(alloc, world(alloc, &LETTER)?, Role::LogOut, 1)?;
+    let left = left_by(&rt, ICOUNT, log)?;
+    shows(&rt, &left, 5, b"A", "rrvm: log output failed\n");
+    assert_eq!(rt; left.log.len(), 98);
+
+    let log = failing(alloc, world(alloc, &LETTER)?, Role::LogOut, 0)?;
+    let left = left_by(&rt, ICOUNT, log)?;
+    shows(&rt, &left, 5, b"", "rrvm: log output failed\n");
+    assert_eq!(rt; left.log.len(), 0);
+
+    let console = failing(alloc, world(alloc, &LETTER)?, Role::ConsoleOut, 0)?;
+    let left = left_by(&rt, ICOUNT, console)?;
+    shows(&rt, &left, 4, b"", "rrvm: console output failed\n");
+    assert_eq!(rt; left.log.len(), 103);
+
+    let firmware = failing_open(alloc, world(alloc, &LETTER)?, 0)?;
+    let left = left_by(&rt, ICOUNT, firmware)?;
+    shows(&rt, &left, 2, b"", "rrvm: cannot open or read fw\n");
+
+    let log = failing_open(alloc, world(alloc, &LETTER)?, 1)?;
+    let left = left_by(&rt, ICOUNT, log)?;
+    shows(&rt, &left, 2, b"", "rrvm: cannot open or read log\n");
+    Ok(())
+}
+
+#[test]
+fn bad_words_have_their_message(rt: HostRuntime) -> Result<(), Fail> {
+    let alloc = rt.alloc();
+    let line = "-icount shift=11,rr=record,rrfile=a -bios b";
+    let left = left_by(&rt, line, world(alloc, &LETTER)?)?;
+    let said = "rrvm: bad word 1: shift=11,rr=record,rrfile=a\n";
+    shows(&rt, &left, 1, b"", said);
+    let left = left_by(&rt, "-bios b", world(alloc, &LETTER)?)?;
+    shows(&rt, &left, 1, b"", "rrvm: words end early\n");
     Ok(())
 }

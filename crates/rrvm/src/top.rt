@@ -6,26 +6,32 @@ ghost use Rattle.outside.specs.Told.{Takes, TakesFront};
 ghost use Rattle.outside.specs.Roles.{at};
 ghost use Rattle.outside.specs.declared.roles.Role.{Role as ARole};
 ghost use Rattle.outside.specs.declared.roles.Role.TheVariants.{ConsoleIn, ConsoleOut, LogIn, LogOut, Messages, Firmware as FirmwareRole};
-ghost use Rattle.command_line.specs.Words.{Recording, Replaying, Records, Replays, IsBadLine, IsLineInRange};
+ghost use Rattle.command_line.specs.Words.{Recording, Replaying, Run, Records, Replays, Debugs, Checks, IsBadLine, IsLineInRange};
 ghost use Rattle.command_line.specs.Line.{seen_line, line_in, quiet_in};
 ghost use Rattle.elf_load.specs.declared.error.LoadError.{LoadError};
 ghost use Rattle.elf_load.specs.declared.error.LoadError.TheVariants as load_error;
 ghost use Rattle.outside.specs.Openings.{OpensFront};
 ghost use Rattle.run_files.specs.Ledgers.{only, only_run, Balanced, ClocksBalanced, NoDisk, CountsKept, CountsStood, Untouched};
-ghost use Rattle.commands.specs.Openings.{openings_of, console_openings, message_openings, OpensAsAsked};
+ghost use Rattle.commands.specs.Asking.{replaying_of};
+ghost use Rattle.commands.specs.Openings.{console_openings};
+ghost use Rattle.rrvm.specs.Openings.{openings_of, message_openings, OpensAsAsked};
 ghost use Rattle.commands.specs.Faults.{IsFaultless, NamesFault};
 ghost use Rattle.rrvm.specs.Messages.{line_of};
 ghost use Rattle.run_files.specs.Firmwares.{IsBadFirmware};
 ghost use Rattle.commands.specs.Recordings.{IsGood, IsLogged};
-ghost use Rattle.commands.specs.Replays.{IsShown, IsReplayable, IsRefusable, IsTooLong};
+ghost use Rattle.commands.specs.Replays.{IsReplayable, IsRefusable, IsTooLong};
 ghost use Rattle.rrvm.specs.ReplayedAlike.{IsReplayedAlike};
-ghost use Rattle.commands.specs.Causes.{Cause, IfRecords, IfReplays, IfDemonstrates, Names, IsEnded, IsPrinted, IsPrintedFront, IfRecording};
-ghost use Rattle.rrvm.specs.Answers.{Explained, IsWordFault, HasRun, ending_status};
+ghost use Rattle.commands.specs.Causes.{IfRecords, IsEnded, IfRecording};
+ghost use Rattle.rrvm.specs.Causes.{Cause, Names, IsPrinted, Shows};
+ghost use Rattle.rrvm.specs.Answers.{Explained, DebugsFreely, IsWordFault, HasRun, ending_status};
 
 use crate::message::message;
 use board::Steps;
+use check_command::check;
 use command_line::{Line, read_line, read_quiet};
 use commands::{HELP, Outcome, PrintFault, VERSION, demonstrate, print, replay, run};
+use debug_command::debug;
+use list_command::list;
 use outside::{Careful, Role, World};
 use std::alloc::{AllocError, Global};
 use std::marker::Brand;
@@ -102,6 +108,8 @@ fn print_alone<W: World>(text: &str, world: &mut W) -> Outcome
         (at (W.ledger world.new).faults ConsoleOut) }
     ensures which { (result ≡ Outcome.Printed)
         ⊎ ((result ≡ Outcome.ConsoleFailed) ⊎ (result ≡ Outcome.NoMemory)) }
+    ensures front { at (W.ledger world.old).opened ConsoleOut < at (W.ledger world.new).opened ConsoleOut
+        → TakesFront (Some []) (at (W.ledger world.new).last ConsoleOut) text.now }
     ensures kept { NamesFault result (W.ledger world.old) (W.ledger world.new) }
     ensures openings { OpensFront (W.ledger world.old).openings (W.ledger world.new).openings
         console_openings }
@@ -132,11 +140,7 @@ fn answer<W: World, L: Ledger>(
         (λ r file. IsLogged r file (W.ledger world.old) (W.ledger world.new)) }
     ensures shown { at (W.ledger world.old).opened ConsoleOut
         < at (W.ledger world.new).opened ConsoleOut
-        → IfReplays (seen_line line.now) (W.ledger world.old)
-        (λ r bytes file. IsShown r bytes file (W.ledger world.new)) }
-    ensures demonstrated { at (W.ledger world.old).opened ConsoleOut
-        < at (W.ledger world.new).opened ConsoleOut
-        → IfDemonstrates (seen_line line.now) (λ n. IsPrintedFront n (W.ledger world.new)) }
+        → Shows (seen_line line.now) (W.ledger world.old) (W.ledger world.new) }
     ensures bad { IsBadLine (seen_line line.now) → IsWordFault result }
     ensures kept { Names (seen_line line.now) result (W.ledger world.old) (W.ledger world.new) }
     ensures openings { OpensFront (W.ledger world.old).openings (W.ledger world.new).openings
@@ -157,6 +161,9 @@ fn answer<W: World, L: Ledger>(
     match line {
         Line::Record(words) => run(alloc, words, world, &mut steps),
         Line::Replay(words) => replay(alloc, words, world, &mut steps),
+        Line::Debug(words) => debug(alloc, words.log, words.bios, world, &mut steps),
+        Line::Check(words) => check(alloc, words.log, words.bios, world, &mut steps),
+        Line::Events(log) => list(alloc, log, world),
         Line::Demo(n) => demonstrate(alloc, *n, world, &mut steps),
         Line::Help => print_alone(HELP, world),
         Line::Version => print_alone(VERSION, world),
@@ -187,17 +194,14 @@ pub fn rrvm_main<R: Threads + Wait + Sync + AllocGlobal, W: World>(
         → IfRecords (line_in words.now) (W.ledger world.old)
         (λ r file. IsLogged r file (W.ledger world.old) (W.ledger world.new)) }
 
-    // What the console of a replay took, where log and firmware tell their bytes: a front of the
-    // bytes of a part of the log that the one-thread machine accepts.
+    // What standard output took, where log and firmware tell their bytes. Of a replay: a front of the
+    // bytes of a part of the log that the one-thread machine accepts. Of a debugging session: a front
+    // of its transcript over the log's accepted part, each answer a state of that machine. Of a check:
+    // of the line of a log that is accepted. Of a list: of the lines of events that the log begins
+    // with. Of a text: a front of it.
     ensures shown { at (W.ledger world.old).opened ConsoleOut
         < at (W.ledger world.new).opened ConsoleOut
-        → IfReplays (line_in words.now) (W.ledger world.old)
-        (λ r bytes file. IsShown r bytes file (W.ledger world.new)) }
-
-    // What a demonstration printed: its line, or a front of it.
-    ensures demonstrated { at (W.ledger world.old).opened ConsoleOut
-        < at (W.ledger world.new).opened ConsoleOut
-        → IfDemonstrates (line_in words.now) (λ n. IsPrintedFront n (W.ledger world.new)) }
+        → Shows (line_in words.now) (W.ledger world.old) (W.ledger world.new) }
 
     // Each status where it comes.
     ensures bad_words { result.code ≡ 1 → IsBadLine (line_in words.now) }
@@ -225,7 +229,9 @@ pub fn rrvm_main<R: Threads + Wait + Sync + AllocGlobal, W: World>(
         → (result.code ≡ 8) ⊎ ((result.code ≡ 2) ⊎ (result.code ≡ 30)) }
     ensures quiet_fault { result.code ≡ 9
         → Rose (at (W.ledger world.old).faults ConsoleOut)
-        (at (W.ledger world.new).faults ConsoleOut) }
+        (at (W.ledger world.new).faults ConsoleOut)
+        ⊎ Rose (at (W.ledger world.old).faults ConsoleIn)
+        (at (W.ledger world.new).faults ConsoleIn) }
     ensures idle { result.code ≡ 12
         → IsEnded (line_in words.now) (W.ledger world.old) (W.ledger world.new) 1 0 }
     ensures budget { result.code ≡ 13
@@ -234,7 +240,8 @@ pub fn rrvm_main<R: Threads + Wait + Sync + AllocGlobal, W: World>(
         → IsEnded (line_in words.now) (W.ledger world.old) (W.ledger world.new) 3 0 }
     ensures guest { result.code ≡ 10 → (code : ℕ) × (code ≢ 0)
         × IsEnded (line_in words.now) (W.ledger world.old) (W.ledger world.new) 0 code }
-    ensures passed { result.code ≡ 0 → IsPrinted (line_in words.now) (W.ledger world.new)
+    ensures passed { result.code ≡ 0
+        → IsPrinted (line_in words.now) (W.ledger world.old) (W.ledger world.new)
         ⊎ IsEnded (line_in words.now) (W.ledger world.old) (W.ledger world.new) 0 0 }
 
     // A recording completes where nothing fails.
@@ -282,6 +289,30 @@ pub fn rrvm_main<R: Threads + Wait + Sync + AllocGlobal, W: World>(
         → CountsStood (W.ledger world.old) (W.ledger world.new)
         → (result.code ≡ 22) ⊎ (result.code ≡ 30) }
 
+    // Where nothing fails: a check and a debugging session of a log that is accepted whole pass, and
+    // over a log that is wrong among its first 2^40 bytes they end by refusing it.
+    ensures checks { (r : Run) (log file : List ℕ) (reason code : ℕ) → line_in words.now ≡ Checks r
+        → (W.ledger world.old).names r.log ≡ Some log
+        → (W.ledger world.old).names r.bios ≡ Some file
+        → IsReplayable (replaying_of r.log r.bios) log file reason code
+        → CountsStood (W.ledger world.old) (W.ledger world.new)
+        → (result.code ≡ 0) ⊎ (result.code ≡ 30) }
+    ensures checks_wrong { (r : Run) (log file : List ℕ) → line_in words.now ≡ Checks r
+        → (W.ledger world.old).names r.log ≡ Some log
+        → (W.ledger world.old).names r.bios ≡ Some file
+        → IsRefusable (replaying_of r.log r.bios) log file
+        → CountsStood (W.ledger world.old) (W.ledger world.new)
+        → (result.code ≡ 20) ⊎ (result.code ≡ 30) }
+    ensures debugs { (r : Run) (log file input : List ℕ) (reason code : ℕ)
+        → line_in words.now ≡ Debugs r
+        → DebugsFreely r log file input (W.ledger world.old) (W.ledger world.new)
+        → IsReplayable (replaying_of r.log r.bios) log file reason code
+        → (result.code ≡ 0) ⊎ (result.code ≡ 30) }
+    ensures debugs_wrong { (r : Run) (log file input : List ℕ) → line_in words.now ≡ Debugs r
+        → DebugsFreely r log file input (W.ledger world.old) (W.ledger world.new)
+        → IsRefusable (replaying_of r.log r.bios) log file
+        → (result.code ≡ 20) ⊎ (result.code ≡ 30) }
+
     // What was opened: a front of what the words let be opened, in that order and under the names
     // that they give, and then the messages, or nothing.
     ensures openings { OpensAsAsked (line_in words.now) (W.ledger world.old) (W.ledger world.new) }
@@ -311,28 +342,67 @@ pub fn rrvm_main<R: Threads + Wait + Sync + AllocGlobal, W: World>(
 
 /// Does what the words of a quiet command ask for, which needs no threads and always returns.
 ///
-/// The words are those after the program's name, of which the first is `demo`: another is bad. A
-/// demonstration prints its line to standard output.
+/// The words are those after the program's name, of which the first is `debug`, `check`, `events` or
+/// `demo`: another is bad. What is asked for is printed to standard output; a debugging session reads
+/// its commands from standard input.
 pub fn rrvm_quiet<W: World>(alloc: Global, words: &[String], world: &mut W) -> Status
     // The status, its cause, and the line on the messages.
     ensures explained { Explained (map string_bytes words.now) (quiet_in words.now)
         (W.ledger world.old) (W.ledger world.new) result.code }
 
-    // What was printed: the line of a demonstration, or a front of it.
-    ensures demonstrated { at (W.ledger world.old).opened ConsoleOut
+    // What standard output took: a front of a session's transcript, of the line of a check or of a
+    // demonstration, or of the lines of a list.
+    ensures shown { at (W.ledger world.old).opened ConsoleOut
         < at (W.ledger world.new).opened ConsoleOut
-        → IfDemonstrates (quiet_in words.now) (λ n. IsPrintedFront n (W.ledger world.new)) }
+        → Shows (quiet_in words.now) (W.ledger world.old) (W.ledger world.new) }
 
     // Each status where it comes.
     ensures bad_words { result.code ≡ 1 → IsBadLine (quiet_in words.now) }
     ensures bad_words_only { IsBadLine (quiet_in words.now)
         → (result.code ≡ 1) ⊎ (result.code ≡ 30) }
+    ensures unread { result.code ≡ 2
+        → Rose (W.ledger world.old).opening_faults (W.ledger world.new).opening_faults
+        ⊎ Rose (at (W.ledger world.old).faults FirmwareRole)
+        (at (W.ledger world.new).faults FirmwareRole) }
+    ensures log_fault { result.code ≡ 6
+        → Rose (at (W.ledger world.old).faults LogIn) (at (W.ledger world.new).faults LogIn) }
     ensures quiet_fault { result.code ≡ 9
         → Rose (at (W.ledger world.old).faults ConsoleOut)
-        (at (W.ledger world.new).faults ConsoleOut) }
-    ensures passed { result.code ≡ 0 → IsPrinted (quiet_in words.now) (W.ledger world.new) }
+        (at (W.ledger world.new).faults ConsoleOut)
+        ⊎ Rose (at (W.ledger world.old).faults ConsoleIn)
+        (at (W.ledger world.new).faults ConsoleIn) }
+    ensures passed { result.code ≡ 0
+        → IsPrinted (quiet_in words.now) (W.ledger world.old) (W.ledger world.new) }
 
-    // What was opened: the console where a demonstration is asked for, and then the messages.
+    // No device failed, and no opening, where the answer was printed whole or the log is refused.
+    ensures unfaulted { IsFaultless result.code
+        → CountsKept (W.ledger world.old) (W.ledger world.new) }
+
+    // Where nothing fails: a check and a debugging session of a log that is accepted whole pass, and
+    // over a log that is wrong among its first 2^40 bytes they end by refusing it.
+    ensures checks { (r : Run) (log file : List ℕ) (reason code : ℕ) → quiet_in words.now ≡ Checks r
+        → (W.ledger world.old).names r.log ≡ Some log
+        → (W.ledger world.old).names r.bios ≡ Some file
+        → IsReplayable (replaying_of r.log r.bios) log file reason code
+        → CountsStood (W.ledger world.old) (W.ledger world.new)
+        → (result.code ≡ 0) ⊎ (result.code ≡ 30) }
+    ensures checks_wrong { (r : Run) (log file : List ℕ) → quiet_in words.now ≡ Checks r
+        → (W.ledger world.old).names r.log ≡ Some log
+        → (W.ledger world.old).names r.bios ≡ Some file
+        → IsRefusable (replaying_of r.log r.bios) log file
+        → CountsStood (W.ledger world.old) (W.ledger world.new)
+        → (result.code ≡ 20) ⊎ (result.code ≡ 30) }
+    ensures debugs { (r : Run) (log file input : List ℕ) (reason code : ℕ)
+        → quiet_in words.now ≡ Debugs r
+        → DebugsFreely r log file input (W.ledger world.old) (W.ledger world.new)
+        → IsReplayable (replaying_of r.log r.bios) log file reason code
+        → (result.code ≡ 0) ⊎ (result.code ≡ 30) }
+    ensures debugs_wrong { (r : Run) (log file input : List ℕ) → quiet_in words.now ≡ Debugs r
+        → DebugsFreely r log file input (W.ledger world.old) (W.ledger world.new)
+        → IsRefusable (replaying_of r.log r.bios) log file
+        → (result.code ≡ 20) ⊎ (result.code ≡ 30) }
+
+    // What was opened: a front of what the words let be opened, and then the messages, or nothing.
     ensures openings { OpensAsAsked (quiet_in words.now) (W.ledger world.old) (W.ledger world.new) }
     ensures idle_words { IsBadLine (quiet_in words.now)
         → W.ledger world.new ≡ only Messages (W.ledger world.old) (W.ledger world.new) }

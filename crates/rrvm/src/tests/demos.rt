@@ -1,56 +1,50 @@
 //! Demonstrations over a world in memory, by both top calls.
 
-use super::{status_of, words};
+use super::{Left, failing, left_by, left_of, shows, words};
 use crate::top::rrvm_quiet;
 use outside::{MemWorld, Role};
-use std::alloc::AllocGlobal;
-use std::process::Abort;
-use std::sync::Wait;
+use std::alloc::{AllocError, Global};
 use std::test::Fail;
-use std::thread::Threads;
 
-/// Runs a demonstration, and compares its line.
-fn shows<R: Threads + Wait + Sync + AllocGlobal + Abort>(
-    rt: &R,
+/// What the words of a quiet command leave of a world.
+pub(crate) fn quiet_left(
+    alloc: Global,
     line: &str,
-    shown: &str,
-) -> Result<(), Fail> {
-    let alloc = rt.alloc();
-    let mut world = MemWorld::new(alloc);
-    assert_eq!(rt; status_of(rt, line, &mut world)?, 0);
-    assert_eq!(rt; world.written(Role::ConsoleOut), shown.as_bytes());
-    assert_eq!(rt; world.written(Role::Messages), b"".as_slice());
-    Ok(())
+    mut world: MemWorld,
+) -> Result<Left, AllocError> {
+    let words = words(alloc, line)?;
+    let code = rrvm_quiet(alloc, &words, &mut world).code;
+    left_of(alloc, code, &world)
 }
 
 #[test]
 fn a_demonstration_shows_its_counts(rt: HostRuntime) -> Result<(), Fail> {
-    let shown = "demo 1: turns 5013, console 1, log 109, replay equal\n";
-    shows(&rt, "demo 1", shown)
+    let left = left_by(&rt, "demo 1", MemWorld::new(rt.alloc()))?;
+    let shown = b"demo 1: turns 5013, console 1, log 109, replay equal\n";
+    shows(&rt, &left, 0, shown, "");
+    Ok(())
 }
 
-/// Twenty million turns: for the built program.
+/// Ten million turns, twice: for the built program.
 #[test]
 fn the_longest_demonstration_shows_its_counts(rt: HostRuntime) -> Result<(), Fail> {
-    let shown = "demo 2000: turns 10012007, console 2000, log 7116, replay equal\n";
-    shows(&rt, "demo 2000", shown)
+    let left = left_by(&rt, "demo 2000", MemWorld::new(rt.alloc()))?;
+    let shown = b"demo 2000: turns 10012007, console 2000, log 7116, replay equal\n";
+    shows(&rt, &left, 0, shown, "");
+    Ok(())
 }
 
 #[test]
 fn a_quiet_command_has_its_statuses(rt: HostRuntime) -> Result<(), Fail> {
     let alloc = rt.alloc();
-    let rows: [(&str, &[u64], u8, &str); 4] = [
-        ("demo 3", &[], 0, ""),
-        ("demo 3", &[0], 9, "rrvm: input or output failed\n"),
-        ("demo 2001", &[], 1, "rrvm: bad word 1: 2001\n"),
-        ("--version", &[], 1, "rrvm: bad word 0: --version\n"),
-    ];
-    for (line, failing, code, said) in rows {
-        let words = words(alloc, line)?;
-        let mut world = MemWorld::new(alloc);
-        world.set_failing(Role::ConsoleOut, failing.to_vec(alloc)?);
-        assert_eq!(rt; rrvm_quiet(alloc, &words, &mut world).code, code);
-        assert_eq!(rt; world.written(Role::Messages), said.as_bytes());
-    }
+    let left = quiet_left(alloc, "demo 3", MemWorld::new(alloc))?;
+    assert_eq!(rt; (left.code, left.messages.len()), (0, 0));
+    let world = failing(alloc, MemWorld::new(alloc), Role::ConsoleOut, 0)?;
+    let left = quiet_left(alloc, "demo 3", world)?;
+    shows(&rt, &left, 9, b"", "rrvm: input or output failed\n");
+    let left = quiet_left(alloc, "demo 2001", MemWorld::new(alloc))?;
+    shows(&rt, &left, 1, b"", "rrvm: bad word 1: 2001\n");
+    let left = quiet_left(alloc, "--version", MemWorld::new(alloc))?;
+    shows(&rt, &left, 1, b"", "rrvm: bad word 0: --version\n");
     Ok(())
 }

@@ -1,7 +1,7 @@
 //! Firmware in an ELF file, over a world in memory.
 
-use super::{ICOUNT, LETTER, status_of};
-use outside::{MemWorld, Role};
+use super::{ICOUNT, LETTER, left_by, logs, shows};
+use outside::MemWorld;
 use std::alloc::{AllocError, Global};
 use std::test::Fail;
 
@@ -27,25 +27,16 @@ fn world(alloc: Global, machine: u8) -> Result<MemWorld, AllocError> {
 
 #[test]
 fn an_elf_file_runs_as_its_segment(rt: HostRuntime) -> Result<(), Fail> {
-    let alloc = rt.alloc();
-    let mut world = world(alloc, 243)?;
-    assert_eq!(rt; status_of(&rt, ICOUNT, &mut world)?, 0);
-    assert_eq!(rt; world.written(Role::ConsoleOut), b"A".as_slice());
-    let log = world.written(Role::LogOut);
-    assert!(rt; log.len() >= 98);
-    assert_eq!(rt; &log[98..], b"\0\0\0\0\x07\x06\0\0\0\0\0".as_slice());
+    let left = left_by(&rt, ICOUNT, world(rt.alloc(), 243)?)?;
+    shows(&rt, &left, 0, b"A", "");
+    logs(&rt, &left, b"\0\0\0\0\x07\x06\0\0\0\0\0");
     Ok(())
 }
 
 #[test]
 fn a_file_for_another_machine_is_bad_firmware(rt: HostRuntime) -> Result<(), Fail> {
-    let alloc = rt.alloc();
-    let mut world = world(alloc, 62)?;
-    assert_eq!(rt; status_of(&rt, ICOUNT, &mut world)?, 8);
-    assert_eq!(rt;
-        world.written(Role::Messages),
-        b"rrvm: bad firmware: machine\n".as_slice()
-    );
-    assert_eq!(rt; world.opened(Role::LogOut), 0);
+    let left = left_by(&rt, ICOUNT, world(rt.alloc(), 62)?)?;
+    shows(&rt, &left, 8, b"", "rrvm: bad firmware: machine\n");
+    assert_eq!(rt; left.logs, 0);
     Ok(())
 }

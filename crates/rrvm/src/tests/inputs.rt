@@ -1,9 +1,10 @@
 //! Recordings of guests that read the console or the host's clock, over a world in memory.
 
-use super::replays::{REPLAY, log_of, replays, world_with};
-use super::{status_of, world};
+use super::replays::{REPLAY, log_of, world_with};
+use super::{Left, failing, left_by, logs, shows, world};
 use outside::{MemWorld, Role};
-use std::alloc::{AllocError, AllocGlobal};
+use std::alloc::{AllocError, AllocGlobal, Global};
+use std::process::Abort;
 use std::sync::Wait;
 use std::test::Fail;
 use std::thread::Threads;
@@ -31,78 +32,83 @@ pub(crate) const IN_TWO: &[u8] =
 
 const UNREAD: &[u8] = b"\0\0\0\0\x64\x05\0\x06\x03\0\0\0\0";
 
-/// Records ECHO over a console that holds `abc`, and whose read of this number fails.
-fn echo<R: Threads + Wait + Sync + AllocGlobal>(
-    rt: &R,
-    failing: u64,
-) -> Result<(u8, MemWorld), AllocError> {
-    let alloc = rt.alloc();
+/// A world whose console holds `abc`.
+fn typed(alloc: Global) -> Result<MemWorld, AllocError> {
     let mut world = world(alloc, &ECHO)?;
     world.set_input(b"abc".to_vec(alloc)?);
-    world.set_failing(Role::ConsoleIn, vec![in alloc; failing]?);
+    Ok(world)
+}
+
+/// Records ECHO over it.
+fn echo<R: Threads + Wait + Sync + AllocGlobal>(
+    rt: &R,
+    world: MemWorld,
+) -> Result<Left, AllocError> {
     let line = "-icount shift=0,rr=record,rrfile=log -bios fw -slice 100";
-    let status = status_of(rt, line, &mut world)?;
-    Ok((status, world))
+    left_by(rt, line, world)
 }
 
 #[test]
 fn a_window_has_the_input_that_was_read_in_it(rt: HostRuntime) -> Result<(), Fail> {
-    let (status, world) = echo(&rt, 9)?;
-    assert_eq!(rt; status, 0);
-    let log = world.written(Role::LogOut);
-    assert!(rt; log.len() >= 98);
-    assert_eq!(rt; &log[98..], AT_ONCE);
-    assert_eq!(rt; world.written(Role::ConsoleOut), b"abc".as_slice());
-    assert_eq!(rt; world.written(Role::Messages), b"".as_slice());
+    let left = echo(&rt, typed(rt.alloc())?)?;
+    shows(&rt, &left, 0, b"abc", "");
+    logs(&rt, &left, AT_ONCE);
     Ok(())
 }
 
 #[test]
 fn input_that_fails_stops_its_recording(rt: HostRuntime) -> Result<(), Fail> {
-    let (status, world) = echo(&rt, 0)?;
-    assert_eq!(rt; status, 3);
-    let log = world.written(Role::LogOut);
-    assert!(rt; log.len() >= 98);
-    assert_eq!(rt; &log[98..], UNREAD);
-    assert_eq!(rt; world.written(Role::ConsoleOut), b"".as_slice());
-    assert_eq!(rt;
-        world.written(Role::Messages),
-        b"rrvm: console input failed\n".as_slice()
-    );
+    let alloc = rt.alloc();
+    let left = echo(&rt, failing(alloc, typed(alloc)?, Role::ConsoleIn, 0)?)?;
+    shows(&rt, &left, 3, b"", "rrvm: console input failed\n");
+    logs(&rt, &left, UNREAD);
+    Ok(())
+}
+
+/// A replay of ECHO with these events has this status, console and message, and opens no input.
+fn replays<R: Threads + Wait + Sync + AllocGlobal + Abort>(
+    rt: &R,
+    header: &[u8],
+    events: &[u8],
+    code: u8,
+    console: &[u8],
+    said: &str,
+) -> Result<(), AllocError> {
+    let alloc = rt.alloc();
+    let log = log_of(rt, header, events)?;
+    let left = left_by(rt, REPLAY, world_with(alloc, &ECHO, &log)?)?;
+    shows(rt, &left, code, console, said);
+    assert_eq!(rt; left.inputs, 0);
     Ok(())
 }
 
 #[test]
 fn a_replay_takes_its_input_from_the_log(rt: HostRuntime) -> Result<(), Fail> {
-    let cases: [(&[u8], u8, &[u8], &str); 3] = [
-        (AT_ONCE, 0, b"abc", ""),
-        (IN_TWO, 0, b"abc", ""),
-        (UNREAD, 14, b"", "rrvm: recording was stopped\n"),
-    ];
-    let (_, recorded) = echo(&rt, 9)?;
-    for (events, code, console, said) in cases {
-        let log = log_of(&rt, recorded.written(Role::LogOut), events)?;
-        let mut world = world_with(rt.alloc(), &ECHO, &log)?;
-        replays(&rt, REPLAY, &mut world, code, console, said)?;
-        assert_eq!(rt; world.opened(Role::ConsoleIn), 0);
-    }
+    let recorded = echo(&rt, typed(rt.alloc())?)?;
+    replays(&rt, &recorded.log, AT_ONCE, 0, b"abc", "")?;
+    replays(&rt, &recorded.log, IN_TWO, 0, b"abc", "")?;
+    let stopped = "rrvm: recording was stopped\n";
+    replays(&rt, &recorded.log, UNREAD, 14, b"", stopped)?;
     Ok(())
+}
+
+/// A world whose clock gives this value first.
+fn clocked(alloc: Global, value: u64) -> Result<MemWorld, AllocError> {
+    let mut world = world(alloc, &CLOCK)?;
+    world.set_clock(vec![in alloc; value]?);
+    Ok(world)
 }
 
 #[test]
 fn a_log_has_what_the_hosts_clock_gave(rt: HostRuntime) -> Result<(), Fail> {
-    let alloc = rt.alloc();
-    let mut world = world(alloc, &CLOCK)?;
-    world.set_clock(vec![in alloc; 0x0123456789abcdef]?);
     let line = "-icount shift=10,rr=record,rrfile=log -bios fw -slice 11";
-    assert_eq!(rt; status_of(&rt, line, &mut world)?, 0);
-    let log = world.written(Role::LogOut);
-    assert!(rt; log.len() >= 98);
-    assert_eq!(rt;
-        &log[98..],
+    let left = left_by(&rt, line, clocked(rt.alloc(), 0x0123456789abcdef)?)?;
+    assert_eq!(rt; left.code, 0);
+    logs(
+        &rt,
+        &left,
         b"\0\0\0\0\x0b\x05\0\x01\0\0\0\0\x02\x04\0\x01\x23\x45\x67\x89\xab\xcd\xef\
-        \0\0\0\0\x05\x06\0\0\0\0\0"
-            .as_slice()
+        \0\0\0\0\x05\x06\0\0\0\0\0",
     );
     Ok(())
 }

@@ -5,12 +5,12 @@ use Rattle.outside.specs.Told.{Takes, TakesFront}
 use Rattle.outside.specs.Roles.{at}
 use Rattle.outside.specs.declared.roles.Role.TheVariants.{ConsoleOut}
 use Rattle.demo_run.specs.Demos.{Demonstration, demo_line}
-use Rattle.commands.specs.Causes.{IsPrintedFront}
+use Rattle.commands.specs.Causes.{IsDemoPrintedFront}
 use Rattle.commands.proofs.quiet.demonstrate.Goals as goal
 
 -- a front of a text was printed, and the text is a demonstration's line
 front-of : (n : ℕ) (d : Demonstration n) (text : List ℕ) (l : Ledger) → text ≡ demo_line n d
-    → TakesFront (Some []) (at l.last ConsoleOut) text → IsPrintedFront n l
+    → TakesFront (Some []) (at l.last ConsoleOut) text → IsDemoPrintedFront n l
 front-of n d text l is took =
     (d, subst (λ (z : List ℕ). TakesFront (Some []) (at l.last ConsoleOut) z) is took)
 

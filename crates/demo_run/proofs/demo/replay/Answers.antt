@@ -42,6 +42,7 @@ returns-in-End g c =
     if-ok c.taken-in-End.result (λ v took.
     shown-again (start_of h c.args.firmware.now) h recorded.log.items recorded.console.items v.items
     (played old c.new-out.result 0) (played new out 0) c.in-End.reason c.in-End.code
+    c.in-End.accepted c.in-End.turns
     (repeats c.args.firmware.now h recorded.log.items c.deref.result.now recorded.console.items
     old new c.new-out.result out c.requires.recorded c.requires.short c.deref.ensures.value
     c.in_ok-header.ensures.header c.in_ok-header.ensures.behind

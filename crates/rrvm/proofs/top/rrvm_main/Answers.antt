@@ -3,8 +3,10 @@ use Rattle.command_line.specs.Line.{seen_line, line_in}
 use Rattle.command_line.specs.Words.{IsLineInRange}
 use Rattle.rrvm.proofs.Completing.{replays-told, refuses-told, long-told}
 use Rattle.rrvm.proofs.ReplayedAlike.{replayable-told}
+use Rattle.rrvm.proofs.Checking.{accepts-told, rejects-told}
+use Rattle.rrvm.proofs.Debugging.{holds-accepted, holds-refused}
 use Rattle.rrvm.proofs.Statuses.{bad-firmware-told, guest-ended-told, passed-told, unfaulted-told}
-use Rattle.rrvm.proofs.Telling.{told-explained, told-log, told-printed, told-shown, told-openings, told-untouched}
+use Rattle.rrvm.proofs.Telling.{told-explained, told-log, told-shows, told-openings, told-untouched}
 use Rattle.rrvm.proofs.top.rrvm_main.Goals as goal
 
 pub returns-clause-explained : goal.returns-clause-explained
@@ -29,18 +31,10 @@ returns-clause-log g c =
 
 pub returns-clause-shown : goal.returns-clause-shown
 returns-clause-shown g c =
-    told-shown (seen_line c.read_line-line.result) (line_in c.args.words.now)
+    told-shows (seen_line c.read_line-line.result) (line_in c.args.words.now)
     (g.W.World.ledger c.args.world.now) (g.W.World.ledger c.answer-outcome.new.world)
     (g.W.World.ledger c.tell-told.new.world)
     c.read_line-line.ensures.value c.tell-told.ensures.rest c.answer-outcome.ensures.shown
-
-pub returns-clause-demonstrated : goal.returns-clause-demonstrated
-returns-clause-demonstrated g c =
-    told-printed (seen_line c.read_line-line.result) (line_in c.args.words.now)
-    (g.W.World.ledger c.args.world.now) (g.W.World.ledger c.answer-outcome.new.world)
-    (g.W.World.ledger c.tell-told.new.world)
-    c.read_line-line.ensures.value c.tell-told.ensures.rest
-    c.answer-outcome.ensures.demonstrated
 
 pub returns-clause-replays : goal.returns-clause-replays
 returns-clause-replays g c =
@@ -104,3 +98,27 @@ returns-clause-replayable g c =
     (g.W.World.ledger c.args.world.now) (g.W.World.ledger c.tell-told.new.world) c.status.result
     (returns-clause-explained g c)
     (subst IsLineInRange c.read_line-line.ensures.value c.read_line-line.ensures.range)
+
+pub returns-clause-checks : goal.returns-clause-checks
+returns-clause-checks g c =
+    accepts-told (map string_bytes c.args.words.now) (line_in c.args.words.now)
+    (g.W.World.ledger c.args.world.now)
+    (g.W.World.ledger c.tell-told.new.world) c.status.result (returns-clause-explained g c)
+
+pub returns-clause-checks_wrong : goal.returns-clause-checks_wrong
+returns-clause-checks_wrong g c =
+    rejects-told (map string_bytes c.args.words.now) (line_in c.args.words.now)
+    (g.W.World.ledger c.args.world.now)
+    (g.W.World.ledger c.tell-told.new.world) c.status.result (returns-clause-explained g c)
+
+pub returns-clause-debugs : goal.returns-clause-debugs
+returns-clause-debugs g c =
+    holds-accepted (map string_bytes c.args.words.now) (line_in c.args.words.now)
+    (g.W.World.ledger c.args.world.now)
+    (g.W.World.ledger c.tell-told.new.world) c.status.result (returns-clause-explained g c)
+
+pub returns-clause-debugs_wrong : goal.returns-clause-debugs_wrong
+returns-clause-debugs_wrong g c =
+    holds-refused (map string_bytes c.args.words.now) (line_in c.args.words.now)
+    (g.W.World.ledger c.args.world.now)
+    (g.W.World.ledger c.tell-told.new.world) c.status.result (returns-clause-explained g c)

@@ -1,7 +1,9 @@
 use Rattle.std.proofs.Common.{map, string_bytes}
 use Rattle.command_line.specs.Line.{seen_line, quiet_in}
-use Rattle.rrvm.proofs.Statuses.{quiet-told}
-use Rattle.rrvm.proofs.Telling.{told-explained, told-printed, told-openings}
+use Rattle.rrvm.proofs.Checking.{accepts-told, rejects-told}
+use Rattle.rrvm.proofs.Debugging.{holds-accepted, holds-refused}
+use Rattle.rrvm.proofs.Statuses.{quiet-told, unfaulted-told}
+use Rattle.rrvm.proofs.Telling.{told-explained, told-shows, told-openings}
 use Rattle.rrvm.proofs.top.rrvm_quiet.Goals as goal
 
 pub returns-clause-explained : goal.returns-clause-explained
@@ -17,13 +19,13 @@ returns-clause-explained g c =
     c.tell-told.ensures.whole
     c.status.ensures
 
-pub returns-clause-demonstrated : goal.returns-clause-demonstrated
-returns-clause-demonstrated g c =
-    told-printed (seen_line c.read_quiet-line.result) (quiet_in c.args.words.now)
+pub returns-clause-shown : goal.returns-clause-shown
+returns-clause-shown g c =
+    told-shows (seen_line c.read_quiet-line.result) (quiet_in c.args.words.now)
     (g.W.World.ledger c.args.world.now) (g.W.World.ledger c.answer-outcome.new.world)
     (g.W.World.ledger c.tell-told.new.world)
     c.read_quiet-line.ensures.value c.tell-told.ensures.rest
-    c.answer-outcome.ensures.demonstrated
+    c.answer-outcome.ensures.shown
 
 pub returns-clause-passed : goal.returns-clause-passed
 returns-clause-passed g c =
@@ -36,3 +38,33 @@ returns-clause-openings g c =
     (g.W.World.ledger c.args.world.now) (g.W.World.ledger c.answer-outcome.new.world)
     (g.W.World.ledger c.tell-told.new.world)
     c.read_quiet-line.ensures.value c.answer-outcome.ensures.openings c.tell-told.ensures.openings
+
+pub returns-clause-unfaulted : goal.returns-clause-unfaulted
+returns-clause-unfaulted g c =
+    unfaulted-told (map string_bytes c.args.words.now) (quiet_in c.args.words.now)
+    (g.W.World.ledger c.args.world.now) (g.W.World.ledger c.tell-told.new.world) c.status.result
+    (returns-clause-explained g c)
+
+pub returns-clause-checks : goal.returns-clause-checks
+returns-clause-checks g c =
+    accepts-told (map string_bytes c.args.words.now) (quiet_in c.args.words.now)
+    (g.W.World.ledger c.args.world.now)
+    (g.W.World.ledger c.tell-told.new.world) c.status.result (returns-clause-explained g c)
+
+pub returns-clause-checks_wrong : goal.returns-clause-checks_wrong
+returns-clause-checks_wrong g c =
+    rejects-told (map string_bytes c.args.words.now) (quiet_in c.args.words.now)
+    (g.W.World.ledger c.args.world.now)
+    (g.W.World.ledger c.tell-told.new.world) c.status.result (returns-clause-explained g c)
+
+pub returns-clause-debugs : goal.returns-clause-debugs
+returns-clause-debugs g c =
+    holds-accepted (map string_bytes c.args.words.now) (quiet_in c.args.words.now)
+    (g.W.World.ledger c.args.world.now)
+    (g.W.World.ledger c.tell-told.new.world) c.status.result (returns-clause-explained g c)
+
+pub returns-clause-debugs_wrong : goal.returns-clause-debugs_wrong
+returns-clause-debugs_wrong g c =
+    holds-refused (map string_bytes c.args.words.now) (quiet_in c.args.words.now)
+    (g.W.World.ledger c.args.world.now)
+    (g.W.World.ledger c.tell-told.new.world) c.status.result (returns-clause-explained g c)

@@ -1,6 +1,6 @@
 use Rattle.std.proofs.Common.{refl, sym, ap, ◌∙◌}
 use Rattle.event_log.specs.HeaderFormat.{header_text}
-use Rattle.io_workers.specs.Intake.{Intake, intake}
+use Rattle.io_workers.specs.Intake.{intake}
 use Rattle.rr_engine.specs.Feed.{source_feed}
 use Rattle.rr_engine.specs.Stand.{Stand, stand}
 use Rattle.rr_engine.proofs.Wholes.{no-header, run-broken, rest-broken, run-whole, fresh, starts, unread-sound, sent-rests}

@@ -1,0 +1,123 @@
+-- What a check comes to, by what the run of its log gave and by what was printed.
+use Rattle.std.proofs.Common.{◌≡◌, ℕ, List, refl, sym, ap, ◌∙◌, subst, arith}
+use Rattle.std.specs.Prelude.{Some, None}
+use Rattle.std.specs.declared.option.Option.{Option}
+use Rattle.outside.specs.Causes.{Rose, both}
+use Rattle.outside.specs.Ledger.{Ledger, opens, source_back}
+use Rattle.outside.specs.Roles.{at}
+use Rattle.outside.specs.declared.roles.Role.TheVariants.{ConsoleOut, LogIn}
+use Rattle.command_line.specs.Words.{Replaying}
+use Rattle.event_log.specs.Reading.{Reader, Unread, ahead, reading, none_read}
+use Rattle.commands.specs.Causes.{IfBoth}
+use Rattle.commands.specs.declared.outcome.Outcome.{Outcome}
+use Rattle.commands.specs.declared.outcome.Outcome.TheVariants as outcome
+use Rattle.check_command.specs.Checks.{IsAccepted, UnacceptedCause, CheckCause, only_judging}
+use Rattle.check_command.specs.Parts.{TellCause}
+use Rattle.check_command.specs.declared.tally.Tally.{Tally}
+use Rattle.check_command.proofs.Judged.{both-some}
+
+-- ---- the log that was opened
+
+pub opened-reader : (r : Reader) (left log : Option (List ℕ)) (faults : ℕ) (unread : Unread)
+    → r ≡ reading left faults unread → left ≡ log → faults ≡ 0 → unread ≡ none_read 0
+    → r ≡ reading log 0 (none_read 0)
+opened-reader r left log faults unread is holds fresh none = cc
+
+all-ahead : (log : Option (List ℕ)) → ahead (reading log 0 (none_read 0)) ≡ log
+all-ahead None = refl
+all-ahead (Some bytes) = refl
+
+-- Until the log is given back, nothing is opened or counted of the console.
+pub console-untouched : (old opened mid back : Ledger) (log : List ℕ) (n : ℕ)
+    (left : Option (List ℕ))
+    → opened ≡ opens old LogIn (Some log) → mid ≡ only_judging opened mid
+    → back ≡ source_back mid LogIn n left
+    → (at back.faults ConsoleOut ≡ at old.faults ConsoleOut)
+    × (at back.opened ConsoleOut ≡ at old.opened ConsoleOut)
+console-untouched old opened mid back log n left opens_ rest back_ = (
+  ap (λ (l : Ledger). at l.faults ConsoleOut) back_
+      ∙ ap (λ (l : Ledger). at l.faults ConsoleOut) rest
+      ∙ ap (λ (l : Ledger). at l.faults ConsoleOut) opens_,
+  ap (λ (l : Ledger). at l.opened ConsoleOut) back_
+      ∙ ap (λ (l : Ledger). at l.opened ConsoleOut) rest
+      ∙ ap (λ (l : Ledger). at l.opened ConsoleOut) opens_,
+)
+
+-- ---- where it has a tally
+
+-- what holds of what a reader of it has ahead holds of the log
+pub accepted-log : (r : Replaying) (t : Tally) (old mid : Ledger) (log : Reader)
+    → mid ≡ opens old LogIn (Some r.log) → log ≡ reading (old.names r.log) 0 (none_read 0)
+    → IfBoth (ahead log) (mid.names r.bios) (λ bytes file. IsAccepted r bytes file t)
+    → IfBoth (old.names r.log) (old.names r.bios) (λ bytes file. IsAccepted r bytes file t)
+accepted-log r t old mid log opened is k =
+    subst (λ (l : Ledger). IfBoth (old.names r.log) (l.names r.bios)
+    (λ bytes file. IsAccepted r bytes file t)) opened
+    (subst (λ (o : Option (List ℕ)). IfBoth o (mid.names r.bios)
+    (λ bytes file. IsAccepted r bytes file t)) (ap ahead is ∙ all-ahead (old.names r.log)) k)
+
+-- its line was printed or not
+pub told-cause : (r : Replaying) (t : Tally) (old mid new : Ledger) (x : Outcome)
+    → IfBoth (old.names r.log) (old.names r.bios) (λ bytes file. IsAccepted r bytes file t)
+    → at mid.faults ConsoleOut ≡ at old.faults ConsoleOut
+    → TellCause t mid new x → CheckCause r old new x
+told-cause r t old mid new outcome.Printed k same told =
+    both-some (old.names r.log) (old.names r.bios) (λ bytes file a. (t, a, told)) k
+told-cause r t old mid new outcome.QuietFailed k same told = (
+  subst (λ (n : ℕ). Rose n (at new.faults ConsoleOut)) same told,
+  both-some (old.names r.log) (old.names r.bios) (λ bytes file a. (t, a)) k,
+)
+told-cause r t old mid new outcome.NoMemory k same told = tt
+told-cause r t old mid new other k same told = absurd told
+
+-- ---- where it has none
+
+both-rose : (a n : ℕ) → Rose 0 n → Rose a (both a n)
+both-rose a n rose = omega (arith, rose)
+
+log-rose : (old mid : Ledger) (n : ℕ) → at mid.faults LogIn ≡ at old.faults LogIn → Rose 0 n
+    → Rose (at old.faults LogIn) (both (at mid.faults LogIn) n)
+log-rose old mid n same rose =
+    subst (λ (z : ℕ). Rose (at old.faults LogIn) z)
+    (sym (ap (λ (z : ℕ). both z n) same)) (both-rose (at old.faults LogIn) n rose)
+
+-- the log was opened, run and given back
+given-back : (r : Replaying) (old mid : Ledger) (n : ℕ) (left : Option (List ℕ)) (x : Outcome)
+    → at mid.faults LogIn ≡ at old.faults LogIn
+    → UnacceptedCause r (old.names r.log) (opens old LogIn (Some r.log)) mid (Rose 0 n) x
+    → CheckCause r old (source_back mid LogIn n left) x
+given-back r old mid n left (outcome.CannotOpen role) same k =
+    record { counted = k.counted; which = k.which }
+given-back r old mid n left outcome.CannotRead same k = k
+given-back r old mid n left outcome.LogUnreadable same k = log-rose old mid n same k
+given-back r old mid n left (outcome.BadFirmware rule) same k = k
+given-back r old mid n left (outcome.HeaderRefused offset) same k =
+    (k.0, record { shown = k.1.shown; read = k.1.read })
+given-back r old mid n left (outcome.LogRefused refusal) same k = k
+given-back r old mid n left (outcome.ImagesDiffer which) same k = k
+given-back r old mid n left outcome.LogTooLong same k = k
+given-back r old mid n left outcome.NoMemory same k = tt
+given-back r old mid n left outcome.Printed same k = absurd k
+given-back r old mid n left outcome.QuietFailed same k = absurd k
+given-back r old mid n left other same k = absurd k
+
+pub untold-cause : (r : Replaying) (old opened mid new : Ledger) (log log' : Reader) (n : ℕ)
+    (left : Option (List ℕ)) (x : Outcome)
+    → opened ≡ opens old LogIn (Some r.log) → log ≡ reading (old.names r.log) 0 (none_read 0)
+    → mid ≡ only_judging opened mid → new ≡ source_back mid LogIn n left → n ≡ log'.faults
+    → UnacceptedCause r (ahead log) opened mid (Rose log.faults log'.faults) x
+    → CheckCause r old new x
+untold-cause r old opened mid new log log' n left x opens_ is rest back counted k =
+    let failed = Rose log.faults log'.faults in
+    let names = old.names r.log in
+    let first = opens old LogIn (Some r.log) in
+    let one = subst (λ (o : Option (List ℕ)). UnacceptedCause r o opened mid failed x)
+    (ap ahead is ∙ all-ahead names) k in
+    let two = subst (λ (l : Ledger). UnacceptedCause r names l mid failed x) opens_ one in
+    let three = subst (λ (z : ℕ). UnacceptedCause r names first mid (Rose z log'.faults) x)
+    (ap (λ (l : Reader). l.faults) is) two in
+    let four = subst (λ (z : ℕ). UnacceptedCause r names first mid (Rose 0 z) x) (sym counted) three in
+    subst (λ (l : Ledger). CheckCause r old l x) (sym back)
+    (given-back r old mid n left x
+    (ap (λ (l : Ledger). at l.faults LogIn) rest ∙ ap (λ (l : Ledger). at l.faults LogIn) opens_)
+    four)

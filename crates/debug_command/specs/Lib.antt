@@ -1,0 +1,2 @@
+pub mod Debugs
+pub mod Causes
