@@ -54,23 +54,28 @@ fn world(
 /// How a session ended, what it answered, and how many streams it opened.
 #[derive(Drop)]
 struct Told {
-    end: Outcome,
+    end: String,
     answers: Vec<u8>,
     streams: [u64; 2],
 }
 
 /// How a session over a world ends.
-fn end_of<L: Ledger>(alloc: Global, world: &mut MemWorld, blank: Blank) -> Outcome
+fn end_of<L: Ledger>(
+    alloc: Global,
+    world: &mut MemWorld,
+    blank: Blank,
+) -> Result<String, AllocError>
     requires name { blank.name ≡ L.name }
     requires parts { blank.parts ≡ L.parts }
     requires some { 0 < L.parts }
 {
     let mut steps: Steps<L> = Steps::open(blank);
-    debug(alloc, "log", "fw", world, &mut steps)
+    let end: Outcome = debug(alloc, "log", "fw", world, &mut steps);
+    format!(in alloc; "{end:?}")
 }
 
 /// What a world tells after a session that ended so.
-fn answers(alloc: Global, end: Outcome, world: &MemWorld) -> Result<Told, AllocError> {
+fn answers(alloc: Global, end: String, world: &MemWorld) -> Result<Told, AllocError> {
     Ok(Told {
         end,
         answers: world.written(Role::ConsoleOut).to_vec(alloc)?,
@@ -84,14 +89,14 @@ fn answers(alloc: Global, end: Outcome, world: &MemWorld) -> Result<Told, AllocE
 // None of these promises anything, so that a test is proved without the clauses of a session.
 fn session(alloc: Global, log: &[u8], commands: &str, failing: &[u64]) -> Result<Told, AllocError> {
     let mut world = world(alloc, log, commands, failing)?;
-    let end = end_of::<Brand>(alloc, &mut world, Blank::new(1));
+    let end = end_of::<Brand>(alloc, &mut world, Blank::new(1))?;
     answers(alloc, end, &world)
 }
 
 #[test]
 fn a_recorded_run_is_walked_back(rt: HostRuntime) -> Result<(), Fail> {
     let told = session(rt.alloc(), &LETTER_LOG, COMMANDS, &[])?;
-    assert!(rt; matches!(&told.end, Outcome::Printed));
+    assert_eq!(rt; told.end.as_str(), "Printed");
     assert_eq!(rt; told.answers.as_slice(), ANSWERS);
     assert_eq!(rt; told.streams, [1, 1]);
     Ok(())
@@ -101,7 +106,10 @@ fn a_recorded_run_is_walked_back(rt: HostRuntime) -> Result<(), Fail> {
 fn a_cut_log_is_walked_before_its_refusal(rt: HostRuntime) -> Result<(), Fail> {
     let cut = &LETTER_LOG[..108];
     let told = session(rt.alloc(), cut, COMMANDS, &[])?;
-    assert!(rt; matches!(&told.end, Outcome::LogRefused(r) if r.index == 1 && r.offset == 103));
+    assert!(rt;
+        told.end
+            .starts_with("LogRefused(Refusal { index: 1, offset: 103, ")
+    );
     assert_eq!(rt; told.answers.as_slice(), ANSWERS);
     Ok(())
 }
@@ -110,7 +118,7 @@ fn a_cut_log_is_walked_before_its_refusal(rt: HostRuntime) -> Result<(), Fail> {
 fn a_refused_header_opens_no_stream(rt: HostRuntime) -> Result<(), Fail> {
     let cut = &LETTER_LOG[..97];
     let told = session(rt.alloc(), cut, COMMANDS, &[])?;
-    assert!(rt; matches!(&told.end, Outcome::HeaderRefused(0)));
+    assert_eq!(rt; told.end.as_str(), "HeaderRefused(0)");
     assert_eq!(rt; told.streams, [0, 0]);
     Ok(())
 }
@@ -120,7 +128,7 @@ fn a_refused_header_opens_no_stream(rt: HostRuntime) -> Result<(), Fail> {
 fn a_fault_of_the_commands_ends_the_session(rt: HostRuntime) -> Result<(), Fail> {
     let lines = "replay_seek 7\nreverse-step";
     let told = session(rt.alloc(), &LETTER_LOG, lines, &[1])?;
-    assert!(rt; matches!(&told.end, Outcome::CommandsUnreadable));
+    assert_eq!(rt; told.end.as_str(), "CommandsUnreadable");
     assert_eq!(rt; told.answers.as_slice(), b"at 7 pc 8000001c\n".as_slice());
     Ok(())
 }
@@ -133,7 +141,9 @@ fn refused_memory_leaves_a_front_of_the_answers(rt: HostRuntime) -> Result<(), F
         return Ok(());
     };
     assert!(rt; ANSWERS.starts_with(&told.answers));
-    let is_whole = matches!(&told.end, Outcome::Printed) && told.answers.len() == ANSWERS.len();
-    assert!(rt; is_whole || matches!(&told.end, Outcome::NoMemory));
+    if told.end.as_str() != "NoMemory" {
+        assert_eq!(rt; told.end.as_str(), "Printed");
+        assert_eq!(rt; told.answers.as_slice(), ANSWERS);
+    }
     Ok(())
 }
