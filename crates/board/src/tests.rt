@@ -2,13 +2,14 @@
 //! and devices.
 
 ghost use Rattle.std.specs.Prelude.{◌≡◌, ◌<◌, ◌≤◌, ◌^◌};
+ghost use Rattle.event_log.specs.Spelling.{IsEvent};
 
 mod guests;
 
 use super::*;
 use elf_load::load;
 use event_log::Event;
-use rv_csr::Mode;
+use rv_csr::{Illegal, Mode};
 use rv_exec::Bus;
 use std::alloc::Global;
 use std::marker::Brand;
@@ -55,6 +56,49 @@ fn started(alloc: Global, firmware: &[u8], budget: u64) -> Result<Machine, Fail>
     Ok(machine)
 }
 
+// A test is proved line by line with all that it knows, so each keeps to values: a machine is made,
+// run and read in functions that promise nothing of what they give.
+
+fn run<L: Ledger>(machine: &mut Machine, limit: u32, steps: &mut Steps<L>) -> Result<u32, Fail> {
+    Ok(machine.run(limit, steps)?)
+}
+
+fn accept(machine: &mut Machine, event: &Event) -> Result<(), AcceptError>
+    requires { IsEvent event.now }
+{
+    machine.accept(event, &[])
+}
+
+fn due(machine: &Machine) -> Due {
+    machine.due()
+}
+
+fn peek(machine: &Machine, at: u32) -> Option<u8> {
+    machine.peek(at)
+}
+
+fn printed(machine: &mut Machine) -> Vec<u8> {
+    machine.take_out()
+}
+
+fn share(machine: &Machine) -> Result<Machine, Fail> {
+    Ok(machine.share()?)
+}
+
+/// How many turns were made, where the next one is, and whether the machine waits in any way.
+fn place(machine: &Machine) -> (u64, u32, bool) {
+    (
+        machine.count(),
+        machine.pc(),
+        machine.window() || machine.idle(),
+    )
+}
+
+fn control_register(machine: &Machine, at: u16) -> Result<u32, Illegal> {
+    let inputs = machine.devices.inputs();
+    machine.hart.csrs.read(at, Mode::M, &inputs)
+}
+
 /// Runs the first guest from reset to its end.
 fn print<L: Ledger>(rt: &impl Abort, alloc: Global, blank: Blank) -> Result<(), Fail>
     requires name { blank.name ≡ L.name }
@@ -63,32 +107,39 @@ fn print<L: Ledger>(rt: &impl Abort, alloc: Global, blank: Blank) -> Result<(), 
 {
     let mut steps: Steps<L> = Steps::open(blank);
     let mut machine = started(alloc, &PRINTS_A, 100)?;
-    assert_eq!(rt; machine.peek(0x8000_0000), Some(0xb7));
+    assert_eq!(rt; peek(&machine, 0x8000_0000), Some(0xb7));
     assert_eq!(rt; machine.deadline(), None);
-    assert_eq!(rt; machine.run(1000, &mut steps)?, 7);
-    assert_eq!(rt; machine.count(), 7);
-    assert_eq!(rt; machine.pc(), 0x8000_001c);
-    assert!(rt; !machine.window() && !machine.idle());
+    assert_eq!(rt; run(&mut machine, 1000, &mut steps)?, 7);
+    assert_eq!(rt; place(&machine), (7, 0x8000_001c, false));
+    ends(rt, machine)
+}
 
+/// Asserts that a machine takes no other event than its end, and printed the letter.
+fn ends(rt: &impl Abort, mut machine: Machine) -> Result<(), Fail> {
     let end = Due::End { reason: 0, code: 0 };
-    assert_eq!(rt; machine.due(), end);
+    assert_eq!(rt; due(&machine), end);
     let other = Event::End { reason: 0, code: 1 };
-    assert_eq!(rt; machine.accept(&other, &[]), Err(AcceptError::Wrong(end)));
-    let mut copy = machine.share()?;
+    assert_eq!(rt; accept(&mut machine, &other), Err(AcceptError::Wrong(end)));
+    let mut copy = share(&machine)?;
     assert_eq!(rt;
-        machine.accept(&Event::End { reason: 0, code: 0 }, &[]),
+        accept(&mut machine, &Event::End { reason: 0, code: 0 }),
         Ok(())
     );
     assert_eq!(rt; machine.ended(), Some(Ending { reason: 0, code: 0 }));
-    assert_eq!(rt; machine.due(), Due::Nothing);
-    assert_eq!(rt; machine.take_out().as_slice(), b"A".as_slice());
-    assert_eq!(rt; copy.take_out().as_slice(), b"A".as_slice());
+    assert_eq!(rt; due(&machine), Due::Nothing);
+    assert_eq!(rt; printed(&mut machine).as_slice(), b"A".as_slice());
+    assert_eq!(rt; printed(&mut copy).as_slice(), b"A".as_slice());
     Ok(())
 }
 
 #[test]
 fn a_guest_prints_a_letter_and_ends(rt: HostRuntime) -> Result<(), Fail> {
     print::<Brand>(&rt, rt.alloc(), Blank::new(1))
+}
+
+/// Asserts that a control register has this word.
+fn has(rt: &impl Abort, machine: &Machine, at: u16, word: u32) {
+    assert_eq!(rt; control_register(machine, at), Ok(word), "of {at:x}");
 }
 
 /// Lets the second guest trap, and then fetch where no RAM is.
@@ -99,25 +150,19 @@ fn call<L: Ledger>(rt: &impl Abort, alloc: Global, blank: Blank) -> Result<(), F
 {
     let mut steps: Steps<L> = Steps::open(blank);
     let mut machine = started(alloc, &CALLS, 2)?;
-    assert_eq!(rt; machine.run(1000, &mut steps)?, 1);
+    assert_eq!(rt; run(&mut machine, 1000, &mut steps)?, 1);
     assert_eq!(rt; machine.count(), 1);
-    assert_eq!(rt; machine.due(), Due::Exception);
-    let inputs = machine.devices.inputs();
-    assert_eq!(rt;
-        machine.hart.csrs.read(MEPC, Mode::M, &inputs),
-        Ok(0x8000_0000)
-    );
-    assert_eq!(rt; machine.accept(&Event::Exception, &[]), Ok(()));
-    let due = machine.due();
-    assert_eq!(rt; due, Due::Run);
-    assert_eq!(rt; machine.run(1, &mut steps)?, 1);
-    assert_eq!(rt; machine.accept(&Event::Exception, &[]), Ok(()));
-    assert_eq!(rt; machine.due(), Due::End { reason: 2, code: 0 });
-    let inputs = machine.devices.inputs();
-    for (at, word) in [(MCAUSE, 1), (MEPC, 0), (MCYCLE, 2), (MINSTRET, 0)] {
-        let read = machine.hart.csrs.read(at, Mode::M, &inputs);
-        assert_eq!(rt; read, Ok(word), "of {at:x}");
-    }
+    assert_eq!(rt; due(&machine), Due::Exception);
+    has(rt, &machine, MEPC, 0x8000_0000);
+    assert_eq!(rt; accept(&mut machine, &Event::Exception), Ok(()));
+    assert_eq!(rt; due(&machine), Due::Run);
+    assert_eq!(rt; run(&mut machine, 1, &mut steps)?, 1);
+    assert_eq!(rt; accept(&mut machine, &Event::Exception), Ok(()));
+    assert_eq!(rt; due(&machine), Due::End { reason: 2, code: 0 });
+    has(rt, &machine, MCAUSE, 1);
+    has(rt, &machine, MEPC, 0);
+    has(rt, &machine, MCYCLE, 2);
+    has(rt, &machine, MINSTRET, 0);
     Ok(())
 }
 

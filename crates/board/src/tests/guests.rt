@@ -75,7 +75,7 @@ fn runs<L: Ledger>(
     turns: u32,
     due: Due,
 ) -> Result<(), Fail> {
-    assert_eq!(rt; machine.run(1000, steps)?, turns);
+    assert_eq!(rt; run(machine, 1000, steps)?, turns);
     assert_eq!(rt; machine.due(), due);
     Ok(())
 }
@@ -84,7 +84,7 @@ fn runs<L: Ledger>(
 fn takes(rt: &impl Abort, machine: &mut Machine, event: &Event)
     requires { IsEvent event.now }
 {
-    assert_eq!(rt; machine.accept(event, &[]), Ok(()));
+    assert_eq!(rt; accept(machine, event), Ok(()));
 }
 
 fn store<L: Ledger>(rt: &impl Abort, alloc: Global, blank: Blank) -> Result<(), Fail>
@@ -95,18 +95,35 @@ fn store<L: Ledger>(rt: &impl Abort, alloc: Global, blank: Blank) -> Result<(), 
     let mut steps: Steps<L> = Steps::open(blank);
     let mut machine = with_guest(alloc, &STORES)?;
     runs(rt, &mut machine, &mut steps, 8, END)?;
-    assert_eq!(rt; machine.peek(0x8000_1000), Some(b'A'));
-    assert_eq!(rt; machine.peek(0x8000_1001), Some(0));
+    assert_eq!(rt; peek(&machine, 0x8000_1000), Some(b'A'));
+    assert_eq!(rt; peek(&machine, 0x8000_1001), Some(0));
 
     let mut machine = with_guest(alloc, &SUMS)?;
     runs(rt, &mut machine, &mut steps, 33, END)?;
-    assert_eq!(rt; machine.take_out().as_slice(), b"L".as_slice());
+    assert_eq!(rt; printed(&mut machine).as_slice(), b"L".as_slice());
     Ok(())
 }
 
 #[test]
 fn what_guests_store_is_read(rt: HostRuntime) -> Result<(), Fail> {
     store::<Brand>(&rt, rt.alloc(), Blank::new(1))
+}
+
+/// Asserts that so many turns lead to WFI, where a byte that is typed interrupts.
+fn claims<L: Ledger>(
+    rt: &impl Abort,
+    alloc: Global,
+    machine: &mut Machine,
+    steps: &mut Steps<L>,
+    turns: u32,
+) -> Result<(), Fail> {
+    runs(rt, machine, steps, turns, Due::Idle)?;
+    takes(rt, machine, &Event::Checkpoint { idle: true });
+    let byte = Bytes::of(alloc, b"x")?;
+    takes(rt, machine, &Event::CharRead(byte));
+    assert_eq!(rt; due(machine), Due::Interrupt);
+    takes(rt, machine, &Event::Interrupt);
+    Ok(())
 }
 
 fn claim<L: Ledger>(rt: &impl Abort, alloc: Global, blank: Blank) -> Result<(), Fail>
@@ -117,22 +134,31 @@ fn claim<L: Ledger>(rt: &impl Abort, alloc: Global, blank: Blank) -> Result<(), 
     let mut steps: Steps<L> = Steps::open(blank);
     let mut machine = with_guest(alloc, &CLAIMS)?;
     // With the way back to WFI the second time has as many turns as the handler and two.
-    for turns in [18, 8] {
-        runs(rt, &mut machine, &mut steps, turns, Due::Idle)?;
-        takes(rt, &mut machine, &Event::Checkpoint { idle: true });
-        let byte = Bytes::of(alloc, b"x")?;
-        takes(rt, &mut machine, &Event::CharRead(byte));
-        assert_eq!(rt; machine.due(), Due::Interrupt);
-        takes(rt, &mut machine, &Event::Interrupt);
-    }
+    claims(rt, alloc, &mut machine, &mut steps, 18)?;
+    claims(rt, alloc, &mut machine, &mut steps, 8)?;
     runs(rt, &mut machine, &mut steps, 8, Due::Idle)?;
-    assert_eq!(rt; machine.take_out().as_slice(), b"AA".as_slice());
+    assert_eq!(rt; printed(&mut machine).as_slice(), b"AA".as_slice());
     Ok(())
 }
 
 #[test]
 fn each_byte_is_claimed_and_completed(rt: HostRuntime) -> Result<(), Fail> {
     claim::<Brand>(&rt, rt.alloc(), Blank::new(1))
+}
+
+/// The clock of the machine, in nanoseconds.
+fn clock(machine: &Machine) -> u64 {
+    machine.devices.time.nanoseconds()
+}
+
+/// The ticks that a guest reads.
+fn ticks(machine: &Machine) -> u64 {
+    machine.devices.inputs().time
+}
+
+/// The words of a0 and a1.
+fn words(machine: &Machine) -> (u32, u32) {
+    (machine.hart.x.get(10), machine.hart.x.get(11))
 }
 
 fn wait<L: Ledger>(rt: &impl Abort, alloc: Global, blank: Blank) -> Result<(), Fail>
@@ -146,17 +172,16 @@ fn wait<L: Ledger>(rt: &impl Abort, alloc: Global, blank: Blank) -> Result<(), F
     takes(rt, &mut machine, &Event::Checkpoint { idle: true });
     takes(rt, &mut machine, &Event::Interrupt);
     // The clock stood at 11, and skipped 99989 to the tick 1000.
-    assert_eq!(rt; machine.devices.time.nanoseconds(), 100_000);
+    assert_eq!(rt; clock(&machine), 100_000);
     runs(rt, &mut machine, &mut steps, 4, END)?;
-    assert_eq!(rt; machine.devices.time.nanoseconds(), 100_004);
-    assert_eq!(rt; machine.devices.inputs().time, 1000);
+    assert_eq!(rt; clock(&machine), 100_004);
+    assert_eq!(rt; ticks(&machine), 1000);
 
     let mut machine = with_guest(alloc, &CLOCK)?;
     runs(rt, &mut machine, &mut steps, 1, Due::Clock)?;
     takes(rt, &mut machine, &Event::Clock(0x0123_4567_89ab_cdef));
-    assert_eq!(rt; machine.run(2, &mut steps)?, 2);
-    assert_eq!(rt; machine.hart.x.get(10), 0x89ab_cdef);
-    assert_eq!(rt; machine.hart.x.get(11), 0x0123_4567);
+    assert_eq!(rt; run(&mut machine, 2, &mut steps)?, 2);
+    assert_eq!(rt; words(&machine), (0x89ab_cdef, 0x0123_4567));
     Ok(())
 }
 
