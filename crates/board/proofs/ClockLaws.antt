@@ -144,11 +144,7 @@ taken-time (event.CharRead bytes) g = window-time g _ refl
 taken-time (event.Net packet) g = window-time g _ refl
 taken-time (event.Block id ok) g = tt
 taken-time (event.End reason code) g = if-option (FromTime g) (reason == 3) _ _ (window-time g _ refl) (due-time (event.End reason code) g)
-taken-time (event.Instruction n) g = due-time (event.Instruction n) g
-taken-time event.Interrupt g = due-time event.Interrupt g
-taken-time event.Exception g = due-time event.Exception g
-taken-time (event.Clock value) g = due-time (event.Clock value) g
-taken-time (event.Checkpoint idle) g = due-time (event.Checkpoint idle) g
+taken-time e g = due-time e g
 
 leveled-time : (g h : State) → FromTime g h → FromTime g (record h { devices = levels h.devices })
 leveled-time g h (opened t) = opened (levels_time h.devices ∙ t)
@@ -175,14 +171,7 @@ from-count g h (closing t) = let c = ap (λ z. z.count) t in let k = (close-keep
 pub step-before : (e : Event) (g : State) → IfSome (step g e) (NoLater g)
 unfolding step
 step-before (event.Instruction n) g = if-some (NoLater g) (ran n g == n && not (is_run (due (after n g)))) _ (λ e. after-before n g)
-step-before event.Interrupt g = map-some (FromTime g) (NoLater g) (from-before g) _ (accept-time event.Interrupt g)
-step-before event.Exception g = map-some (FromTime g) (NoLater g) (from-before g) _ (accept-time event.Exception g)
-step-before (event.CharRead bytes) g = map-some (FromTime g) (NoLater g) (from-before g) _ (accept-time (event.CharRead bytes) g)
-step-before (event.Block id ok) g = map-some (FromTime g) (NoLater g) (from-before g) _ (accept-time (event.Block id ok) g)
-step-before (event.Net bytes) g = map-some (FromTime g) (NoLater g) (from-before g) _ (accept-time (event.Net bytes) g)
-step-before (event.Clock value) g = map-some (FromTime g) (NoLater g) (from-before g) _ (accept-time (event.Clock value) g)
-step-before (event.Checkpoint idle) g = map-some (FromTime g) (NoLater g) (from-before g) _ (accept-time (event.Checkpoint idle) g)
-step-before (event.End reason code) g = map-some (FromTime g) (NoLater g) (from-before g) _ (accept-time (event.End reason code) g)
+step-before e g = map-some (FromTime g) (NoLater g) (from-before g) _ (accept-time e g)
 
 all-ran : (n : ℕ) (g : State) → (ran n g == n && not (is_run (due (after n g)))) ≡ true → ran n g ≡ n
 all-ran n g e = grind arith
@@ -193,14 +182,7 @@ after-turns n g e = let r = all-ran n g e in let c = (after-counts n g).count in
 pub step-counts : (e : Event) (g : State) → IfSome (step g e) (IsLaterBy (turns_of e) g)
 unfolding step
 step-counts (event.Instruction n) g = if-some (IsLaterBy n g) (ran n g == n && not (is_run (due (after n g)))) _ (after-turns n g)
-step-counts event.Interrupt g = map-some (FromTime g) (IsLaterBy 0 g) (from-count g) _ (accept-time event.Interrupt g)
-step-counts event.Exception g = map-some (FromTime g) (IsLaterBy 0 g) (from-count g) _ (accept-time event.Exception g)
-step-counts (event.CharRead bytes) g = map-some (FromTime g) (IsLaterBy 0 g) (from-count g) _ (accept-time (event.CharRead bytes) g)
-step-counts (event.Block id ok) g = map-some (FromTime g) (IsLaterBy 0 g) (from-count g) _ (accept-time (event.Block id ok) g)
-step-counts (event.Net bytes) g = map-some (FromTime g) (IsLaterBy 0 g) (from-count g) _ (accept-time (event.Net bytes) g)
-step-counts (event.Clock value) g = map-some (FromTime g) (IsLaterBy 0 g) (from-count g) _ (accept-time (event.Clock value) g)
-step-counts (event.Checkpoint idle) g = map-some (FromTime g) (IsLaterBy 0 g) (from-count g) _ (accept-time (event.Checkpoint idle) g)
-step-counts (event.End reason code) g = map-some (FromTime g) (IsLaterBy 0 g) (from-count g) _ (accept-time (event.End reason code) g)
+step-counts e g = map-some (FromTime g) (IsLaterBy 0 g) (from-count g) _ (accept-time e g)
 
 then-some : (P Q : State → Type 0) (R : State → State → Type 0) → ((h k : State) → P h → R h k → Q k) → (o : Option State) (next : State → Option State)
     → IfSome o P → ((h : State) → IfSome (next h) (R h)) → IfSome (then_run o next) Q
@@ -252,14 +234,7 @@ event-late : (e : Event) (g h : State) (n : ℕ) → n < turns_of e → step g e
 unfolding step
 event-late (event.Instruction k) g h n w is =
     subst (λ z. NoLater (after n g) z) (is-some (ran k g == k && not (is_run (due (after k g)))) (after k g) h is) (after-steps n k g (omega arith))
-event-late event.Interrupt g h n w is = absurd (omega arith)
-event-late event.Exception g h n w is = absurd (omega arith)
-event-late (event.CharRead bytes) g h n w is = absurd (omega arith)
-event-late (event.Block id ok) g h n w is = absurd (omega arith)
-event-late (event.Net bytes) g h n w is = absurd (omega arith)
-event-late (event.Clock value) g h n w is = absurd (omega arith)
-event-late (event.Checkpoint idle) g h n w is = absurd (omega arith)
-event-late (event.End reason code) g h n w is = absurd (omega arith)
+event-late e g h n w is = absurd (omega arith)
 
 here-late : (e : Event) (g : State) (n : ℕ) (o : Option State) (next : State → State) (rest : State → Option State)
     → n < turns_of e → step g e ≡ o → IsSome (then_run o rest) → ((h : State) → NoLater h (next h)) → NoLater (after n g) (or_here g o next)

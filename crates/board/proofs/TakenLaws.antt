@@ -231,11 +231,7 @@ module _ (front : List ℕ) where
   taken-with (event.Net packet) g = both (map_out front) (takes_input g.control) _ _ _ _ refl refl
   taken-with (event.Block id ok) g = refl
   taken-with (event.End reason code) g = end-with g reason code
-  taken-with (event.Instruction n) g = now-takes-with (event.Instruction n) g
-  taken-with event.Interrupt g = now-takes-with event.Interrupt g
-  taken-with event.Exception g = now-takes-with event.Exception g
-  taken-with (event.Clock value) g = now-takes-with (event.Clock value) g
-  taken-with (event.Checkpoint idle) g = now-takes-with (event.Checkpoint idle) g
+  taken-with e g = now-takes-with e g
 
   levels-map-with : (o : Option State) → with_levels (map_out front o) ≡ map_out front (with_levels o)
   levels-map-with None = refl
@@ -268,14 +264,7 @@ module _ (front : List ℕ) where
       ∙ ap (λ z. cond (ran n g == n && not (is_run (due z))) (Some z) None) (after-with n g)
       ∙ ap (λ z. cond (ran n g == n && not (is_run z)) (Some (with_out front (after n g))) None) (due-with (after n g))
       ∙ both (map_out front) (ran n g == n && not (is_run (due (after n g)))) _ _ _ _ refl refl
-  step-with event.Interrupt g = accept-with event.Interrupt g
-  step-with event.Exception g = accept-with event.Exception g
-  step-with (event.CharRead bytes) g = accept-with (event.CharRead bytes) g
-  step-with (event.Block id ok) g = accept-with (event.Block id ok) g
-  step-with (event.Net bytes) g = accept-with (event.Net bytes) g
-  step-with (event.Clock value) g = accept-with (event.Clock value) g
-  step-with (event.Checkpoint idle) g = accept-with (event.Checkpoint idle) g
-  step-with (event.End reason code) g = accept-with (event.End reason code) g
+  step-with e g = accept-with e g
 
   then-with : (next : State → Option State) → ((g : State) → next (with_out front g) ≡ map_out front (next g)) → (o : Option State) → then_run (map_out front o) next ≡ map_out front (then_run o next)
   then-with next h None = refl

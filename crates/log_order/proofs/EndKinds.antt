@@ -62,11 +62,7 @@ taken-ends (event.Block id ok) g is p = tt
 taken-ends (event.End reason code) g is p =
     if-option (reason == 3) _ _ (if-some (takes_input g.control) _ (is.0, is.2))
     (due-ends (event.End reason code) g is p)
-taken-ends (event.Instruction n) g is p = due-ends (event.Instruction n) g is p
-taken-ends event.Interrupt g is p = due-ends event.Interrupt g is p
-taken-ends event.Exception g is p = due-ends event.Exception g is p
-taken-ends (event.Clock value) g is p = due-ends (event.Clock value) g is p
-taken-ends (event.Checkpoint idle) g is p = due-ends (event.Checkpoint idle) g is p
+taken-ends e g is p = due-ends e g is p
 
 levels-ends : (o : Option State) → IfSome o Ends → IfSome (with_levels o) Ends
 levels-ends None p = tt
@@ -81,14 +77,7 @@ unfolding step
 step-ends (event.Instruction n) g is p =
     if-some (ran n g == n && not (is_run (due (after n g)))) (after n g)
     (subst IsSpelled (sym (after-counts n g).ended) p)
-step-ends event.Interrupt g is p = accept-ends event.Interrupt g is p
-step-ends event.Exception g is p = accept-ends event.Exception g is p
-step-ends (event.CharRead bytes) g is p = accept-ends (event.CharRead bytes) g is p
-step-ends (event.Block id ok) g is p = accept-ends (event.Block id ok) g is p
-step-ends (event.Net packet) g is p = accept-ends (event.Net packet) g is p
-step-ends (event.Clock value) g is p = accept-ends (event.Clock value) g is p
-step-ends (event.Checkpoint idle) g is p = accept-ends (event.Checkpoint idle) g is p
-step-ends (event.End reason code) g is p = accept-ends (event.End reason code) g is p
+step-ends e g is p = accept-ends e g is p
 
 of-some : (o : Option State) (h : State) → IfSome o Ends → o ≡ Some h → Ends h
 of-some None h p e = absurd cc

@@ -37,21 +37,7 @@ record Without (g : State) (e : Event) : Type 0 where
 without : (g : State) (e : Event) → IsNoTurn e → Without g e
 unfolding step due_at
 without g (event.Instruction n) free = absurd free
-without g event.Interrupt free =
-    record { steps = refl; due_is = refl; state = refl; turns = refl; halts = λ h m s q. (m, s, q) }
-without g event.Exception free =
-    record { steps = refl; due_is = refl; state = refl; turns = refl; halts = λ h m s q. (m, s, q) }
-without g (event.CharRead bytes) free =
-    record { steps = refl; due_is = refl; state = refl; turns = refl; halts = λ h m s q. (m, s, q) }
-without g (event.Block id ok) free =
-    record { steps = refl; due_is = refl; state = refl; turns = refl; halts = λ h m s q. (m, s, q) }
-without g (event.Net bytes) free =
-    record { steps = refl; due_is = refl; state = refl; turns = refl; halts = λ h m s q. (m, s, q) }
-without g (event.Clock value) free =
-    record { steps = refl; due_is = refl; state = refl; turns = refl; halts = λ h m s q. (m, s, q) }
-without g (event.Checkpoint idle) free =
-    record { steps = refl; due_is = refl; state = refl; turns = refl; halts = λ h m s q. (m, s, q) }
-without g (event.End reason code) free =
+without g e free =
     record { steps = refl; due_is = refl; state = refl; turns = refl; halts = λ h m s q. (m, s, q) }
 
 -- an event counts its turns

@@ -60,11 +60,7 @@ taken-none g (event_is.Block id ok) ended = refl
 taken-none g (event_is.End reason code) ended =
     rw (not-none g.control.ended ended, now-nothing g (event_is.End reason code) ended)
     (same-both (reason == 3) None)
-taken-none g (event_is.Instruction n) ended = now-nothing g (event_is.Instruction n) ended
-taken-none g event_is.Interrupt ended = now-nothing g event_is.Interrupt ended
-taken-none g event_is.Exception ended = now-nothing g event_is.Exception ended
-taken-none g (event_is.Clock value) ended = now-nothing g (event_is.Clock value) ended
-taken-none g (event_is.Checkpoint idle) ended = now-nothing g (event_is.Checkpoint idle) ended
+taken-none g e ended = now-nothing g e ended
 
 accept-none : (g : State) (e : Event) → IsSome g.control.ended → accept g e ≡ None
 unfolding accept
@@ -75,14 +71,7 @@ unfolding step
 ended-none g (event_is.Instruction n) is ended =
     let none : ran n g ≡ 0 = ran-none n g (ap is_run (ended-due g ended)) in
     rw none (rw (ne_eqb 0 n (λ e. omega (arith, e, is.0))) refl)
-ended-none g event_is.Interrupt is ended = accept-none g event_is.Interrupt ended
-ended-none g event_is.Exception is ended = accept-none g event_is.Exception ended
-ended-none g (event_is.CharRead bytes) is ended = accept-none g (event_is.CharRead bytes) ended
-ended-none g (event_is.Block id ok) is ended = accept-none g (event_is.Block id ok) ended
-ended-none g (event_is.Net bytes) is ended = accept-none g (event_is.Net bytes) ended
-ended-none g (event_is.Clock value) is ended = accept-none g (event_is.Clock value) ended
-ended-none g (event_is.Checkpoint idle) is ended = accept-none g (event_is.Checkpoint idle) ended
-ended-none g (event_is.End reason code) is ended = accept-none g (event_is.End reason code) ended
+ended-none g e is ended = accept-none g e ended
 
 -- ---- where a log comes to a halt
 

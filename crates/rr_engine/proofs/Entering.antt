@@ -25,14 +25,7 @@ use Rattle.rr_engine.proofs.Joining.{run-none, run-one}
 pub step-accept : (g h : State) (e : Event) → IsNoTurn e → accept g e ≡ Some h → step g e ≡ Some h
 unfolding step
 step-accept g h (event.Instruction n) is a = absurd is
-step-accept g h event.Interrupt is a = a
-step-accept g h event.Exception is a = a
-step-accept g h (event.CharRead bytes) is a = a
-step-accept g h (event.Block id ok) is a = a
-step-accept g h (event.Net bytes) is a = a
-step-accept g h (event.Clock value) is a = a
-step-accept g h (event.Checkpoint idle) is a = a
-step-accept g h (event.End reason code) is a = a
+step-accept g h e is a = a
 
 -- the values of one event
 one-value : (e : Event) → clock_values (e ∷ []) ≡ clock_value e
@@ -231,15 +224,12 @@ IsPlain (event.Checkpoint idle) = ⊥
 IsPlain other = Unit {0}
 
 plain-hears : (e : Event) (s : Feed) → IsPlain e → Hears nothing_left s (e ∷ []) nothing_left s
-plain-hears (event.CharRead bytes) s l = absurd l
-plain-hears (event.Block id ok) s l = absurd l
-plain-hears (event.Net packet) s l = absurd l
-plain-hears (event.Checkpoint idle) s l = absurd l
 plain-hears (event.Instruction n) s l = (s, (refl, refl, refl), (refl, refl, refl))
 plain-hears event.Interrupt s l = (s, (refl, refl, refl), (refl, refl, refl))
 plain-hears event.Exception s l = (s, (refl, refl, refl), (refl, refl, refl))
 plain-hears (event.Clock value) s l = (s, (refl, refl, refl), (refl, refl, refl))
 plain-hears (event.End reason code) s l = inl (s, (refl, refl, refl), (refl, refl, refl))
+plain-hears e s l = absurd l
 
 -- such an event, where the clock gave its value
 pub had : (p : Stand) (before : Option (List ℕ)) (e : Event) → IsPlain e → Takes before p.gave (clock_value e)

@@ -131,15 +131,12 @@ conclusion-leaves false g h reason code e = inl (takes-leaves (due g) (event.End
 
 taken-leaves : (e : Event) (g h : State) → IsOwn e → taken g e ≡ Some h → From g e h.control
 unfolding taken
-taken-leaves (event.Instruction n) g h own t = absurd own
 taken-leaves event.Interrupt g h own t = inl (takes-leaves (due g) event.Interrupt (close g) h t)
 taken-leaves event.Exception g h own t = inl (takes-leaves (due g) event.Exception (close g) h t)
-taken-leaves (event.CharRead bytes) g h own t = absurd own
-taken-leaves (event.Block id ok) g h own t = absurd own
-taken-leaves (event.Net packet) g h own t = absurd own
 taken-leaves (event.Clock value) g h own t = inl (takes-leaves (due g) (event.Clock value) (close g) h t)
 taken-leaves (event.Checkpoint idle) g h own t = inl (takes-leaves (due g) (event.Checkpoint idle) (close g) h t)
 taken-leaves (event.End reason code) g h own t = conclusion-leaves (reason == 3) g h reason code t
+taken-leaves e g h own t = absurd own
 
 accept-leaves : (e : Event) (g h : State) → IsOwn e → accept g e ≡ Some h → From g e h.control
 unfolding accept
@@ -148,14 +145,10 @@ accept-leaves e g h own a = level-keeps (From g e) (taken g e) h a (λ k t. take
 step-leaves : (e : Event) (g h : State) → IsOwn e → step g e ≡ Some h → From g e h.control
 unfolding step
 step-leaves (event.Instruction n) g h own s = absurd own
-step-leaves event.Interrupt g h own s = accept-leaves event.Interrupt g h own s
-step-leaves event.Exception g h own s = accept-leaves event.Exception g h own s
 step-leaves (event.CharRead bytes) g h own s = absurd own
 step-leaves (event.Block id ok) g h own s = absurd own
 step-leaves (event.Net packet) g h own s = absurd own
-step-leaves (event.Clock value) g h own s = accept-leaves (event.Clock value) g h own s
-step-leaves (event.Checkpoint idle) g h own s = accept-leaves (event.Checkpoint idle) g h own s
-step-leaves (event.End reason code) g h own s = accept-leaves (event.End reason code) g h own s
+step-leaves e g h own s = accept-leaves e g h own s
 
 -- an event that neither opens a window nor ends the run
 abbrev pub IsInner : Event → Type 0

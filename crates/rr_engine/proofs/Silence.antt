@@ -43,12 +43,7 @@ unfolding taken
 taken-uart event.Interrupt g h i t = due-uart event.Interrupt g h i t
 taken-uart event.Exception g h i t = due-uart event.Exception g h i t
 taken-uart (event.Clock value) g h i t = due-uart (event.Clock value) g h i t
-taken-uart (event.Instruction n) g h i t = absurd i
-taken-uart (event.CharRead bytes) g h i t = absurd i
-taken-uart (event.Block id ok) g h i t = absurd i
-taken-uart (event.Net packet) g h i t = absurd i
-taken-uart (event.Checkpoint idle) g h i t = absurd i
-taken-uart (event.End reason code) g h i t = absurd i
+taken-uart e g h i t = absurd i
 
 accept-uart : (e : Event) (g h : State) → IsInner e → accept g e ≡ Some h → LeavesUart g h
 unfolding accept

@@ -81,15 +81,12 @@ came-opened i j idle es d c = record {
 
 plain-told : (w : Extent) (e : Event) (left : List ℕ) (es : List Event) (rest : List ℕ) → IsPlain e
     → Hears w Paid left es rest → Hears w Paid left (e ∷ es) rest
-plain-told w (event.CharRead bytes) left es rest l h = absurd l
-plain-told w (event.Block id ok) left es rest l h = absurd l
-plain-told w (event.Net packet) left es rest l h = absurd l
-plain-told w (event.Checkpoint idle) left es rest l h = absurd l
 plain-told w (event.Instruction n) left es rest l h = (tt, h)
 plain-told w event.Interrupt left es rest l h = (tt, h)
 plain-told w event.Exception left es rest l h = (tt, h)
 plain-told w (event.Clock value) left es rest l h = (tt, h)
 plain-told w (event.End reason code) left es rest l h = (λ whole. tt, h)
+plain-told w e left es rest l h = absurd l
 
 plain-heard : (w : Extent) (e : Event) (a b : Option (List ℕ)) (es : List Event) → IsPlain e
     → Heard w Paid a es b → Heard w Paid a (e ∷ es) b
@@ -103,11 +100,7 @@ plain-read w (event.CharRead bytes) a b es l r = absurd l
 plain-read w (event.Block id ok) a b es l r = absurd l
 plain-read w (event.Net packet) a b es l r = absurd l
 plain-read w (event.Checkpoint idle) a b es l r = absurd l
-plain-read w (event.Instruction n) a b es l r = record { more = r.more; gave = r.gave; all = r.all }
-plain-read w event.Interrupt a b es l r = record { more = r.more; gave = r.gave; all = r.all }
-plain-read w event.Exception a b es l r = record { more = r.more; gave = r.gave; all = r.all }
-plain-read w (event.Clock value) a b es l r = record { more = r.more; gave = r.gave; all = r.all }
-plain-read w (event.End reason code) a b es l r = record { more = r.more; gave = r.gave; all = r.all }
+plain-read w e a b es l r = record { more = r.more; gave = r.gave; all = r.all }
 
 came-plain : (i j : Intake) (e : Event) (es : List Event) (d : Remainder) → IsPlain e → Came Paid i j es d → Came Paid i j (e ∷ es) d
 came-plain i j e es d l c = record {

@@ -163,14 +163,7 @@ no-part : (o : Remainder) (p r : Stand) (e : Event) → EndsInput e → r.feed �
 no-part o p r (event.End reason code) ends same =
     subst (λ (z : Feed). Hears o p.feed (event.End reason code ∷ []) (Left [] true) z) (sym same)
     (inr (p.feed, inl refl, hears-none (Left [] true) p.feed))
-no-part o p r (event.Instruction n) ends same = absurd ends
-no-part o p r event.Interrupt ends same = absurd ends
-no-part o p r event.Exception ends same = absurd ends
-no-part o p r (event.CharRead bytes) ends same = absurd ends
-no-part o p r (event.Block id ok) ends same = absurd ends
-no-part o p r (event.Net bytes) ends same = absurd ends
-no-part o p r (event.Clock value) ends same = absurd ends
-no-part o p r (event.Checkpoint idle) ends same = absurd ends
+no-part o p r e ends same = absurd ends
 
 -- an event was entered, and the log ended after it
 noted-stopped : (o : Remainder) (p : Stand) (m : State) (e : Event) (r : Stand) (after : Option (List ℕ))
