@@ -27,12 +27,8 @@ hears-paid w o [] left rest paid h = (λ whole. paid, h.1)
 hears-paid w o (event.CharRead bytes ∷ fs) left rest paid h = absurd (not-owed h.0)
 hears-paid w o (event.Block id ok ∷ fs) left rest paid h = absurd h
 hears-paid w o (event.Net packet ∷ fs) left rest paid h = absurd h
-hears-paid w o (event.Checkpoint idle ∷ fs) left rest paid h = (paid, h.1)
 hears-paid w o (event.End reason code ∷ fs) left rest paid h = (λ whole. paid, h.1)
-hears-paid w o (event.Instruction n ∷ fs) left rest paid h = (paid, h.1)
-hears-paid w o (event.Interrupt ∷ fs) left rest paid h = (paid, h.1)
-hears-paid w o (event.Exception ∷ fs) left rest paid h = (paid, h.1)
-hears-paid w o (event.Clock value ∷ fs) left rest paid h = (paid, h.1)
+hears-paid w o (e ∷ fs) left rest paid h = (paid, h.1)
 
 pub hears-then : (w : Extent) (o : Debt) (es fs : List Event) (left mid rest : List ℕ)
     → Hears Entire o left es mid
@@ -48,13 +44,7 @@ hears-then w o (event.Checkpoint idle ∷ es) fs left mid rest a b =
     (a.0, hears-then w Owed es fs left mid rest a.1 b)
 hears-then w o (event.End reason code ∷ es) fs left mid rest a b =
     (λ whole. a.0 refl, hears-then w Paid es fs left mid rest a.1 b)
-hears-then w o (event.Instruction n ∷ es) fs left mid rest a b =
-    (a.0, hears-then w Paid es fs left mid rest a.1 b)
-hears-then w o (event.Interrupt ∷ es) fs left mid rest a b =
-    (a.0, hears-then w Paid es fs left mid rest a.1 b)
-hears-then w o (event.Exception ∷ es) fs left mid rest a b =
-    (a.0, hears-then w Paid es fs left mid rest a.1 b)
-hears-then w o (event.Clock value ∷ es) fs left mid rest a b =
+hears-then w o (e ∷ es) fs left mid rest a b =
     (a.0, hears-then w Paid es fs left mid rest a.1 b)
 
 -- a whole recording may be called broken off
@@ -68,10 +58,7 @@ hears-weak o (event.Net packet ∷ es) left rest a = absurd a
 hears-weak o (event.Checkpoint idle ∷ es) left rest a = (a.0, hears-weak Owed es left rest a.1)
 hears-weak o (event.End reason code ∷ es) left rest a =
     (λ whole. a.0 refl, hears-weak Paid es left rest a.1)
-hears-weak o (event.Instruction n ∷ es) left rest a = (a.0, hears-weak Paid es left rest a.1)
-hears-weak o (event.Interrupt ∷ es) left rest a = (a.0, hears-weak Paid es left rest a.1)
-hears-weak o (event.Exception ∷ es) left rest a = (a.0, hears-weak Paid es left rest a.1)
-hears-weak o (event.Clock value ∷ es) left rest a = (a.0, hears-weak Paid es left rest a.1)
+hears-weak o (e ∷ es) left rest a = (a.0, hears-weak Paid es left rest a.1)
 
 -- the bytes of the events come first
 pub hears-typed : (w : Extent) (o : Debt) (es : List Event) (left rest : List ℕ)
@@ -84,11 +71,7 @@ hears-typed w o (event.CharRead bytes ∷ es) left rest a =
 hears-typed w o (event.Block id ok ∷ es) left rest a = absurd a
 hears-typed w o (event.Net packet ∷ es) left rest a = absurd a
 hears-typed w o (event.Checkpoint idle ∷ es) left rest a = hears-typed w Owed es left rest a.1
-hears-typed w o (event.End reason code ∷ es) left rest a = hears-typed w Paid es left rest a.1
-hears-typed w o (event.Instruction n ∷ es) left rest a = hears-typed w Paid es left rest a.1
-hears-typed w o (event.Interrupt ∷ es) left rest a = hears-typed w Paid es left rest a.1
-hears-typed w o (event.Exception ∷ es) left rest a = hears-typed w Paid es left rest a.1
-hears-typed w o (event.Clock value ∷ es) left rest a = hears-typed w Paid es left rest a.1
+hears-typed w o (e ∷ es) left rest a = hears-typed w Paid es left rest a.1
 
 -- the first of the events hear the first of the input
 pub hears-front : (w : Extent) (o : Debt) (es fs : List Event) (left rest : List ℕ)
@@ -103,13 +86,7 @@ hears-front w o (event.Checkpoint idle ∷ es) fs left rest a =
     let more = hears-front w Owed es fs left rest a.1 in (more.0, (a.0, more.1))
 hears-front w o (event.End reason code ∷ es) fs left rest a =
     let more = hears-front w Paid es fs left rest a.1 in (more.0, (λ whole. absurd cc, more.1))
-hears-front w o (event.Instruction n ∷ es) fs left rest a =
-    let more = hears-front w Paid es fs left rest a.1 in (more.0, (a.0, more.1))
-hears-front w o (event.Interrupt ∷ es) fs left rest a =
-    let more = hears-front w Paid es fs left rest a.1 in (more.0, (a.0, more.1))
-hears-front w o (event.Exception ∷ es) fs left rest a =
-    let more = hears-front w Paid es fs left rest a.1 in (more.0, (a.0, more.1))
-hears-front w o (event.Clock value ∷ es) fs left rest a =
+hears-front w o (e ∷ es) fs left rest a =
     let more = hears-front w Paid es fs left rest a.1 in (more.0, (a.0, more.1))
 
 -- ---- sources that may tell nothing

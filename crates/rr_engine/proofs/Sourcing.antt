@@ -127,14 +127,7 @@ came-lost i k j o es d ends same never heard read = record {
     ends-told : (o : Debt) (left : List ℕ) (es : List Event) (rest : List ℕ) → AllEnds es → left ≡ rest → Hears Part o left es rest
     ends-told o left [] rest ends e = (λ whole. absurd cc, e)
     ends-told o left (event.End reason code ∷ es) rest ends e = (λ whole. absurd cc, ends-told Paid left es rest ends e)
-    ends-told o left (event.CharRead bytes ∷ es) rest ends e = absurd ends
-    ends-told o left (event.Block id ok ∷ es) rest ends e = absurd ends
-    ends-told o left (event.Net packet ∷ es) rest ends e = absurd ends
-    ends-told o left (event.Checkpoint idle ∷ es) rest ends e = absurd ends
-    ends-told o left (event.Instruction n ∷ es) rest ends e = absurd ends
-    ends-told o left (event.Interrupt ∷ es) rest ends e = absurd ends
-    ends-told o left (event.Exception ∷ es) rest ends e = absurd ends
-    ends-told o left (event.Clock value ∷ es) rest ends e = absurd ends
+    ends-told o left (f ∷ es) rest ends e = absurd ends
 
     ends-part : (o : Debt) (a b : Option (List ℕ)) (es : List Event) → AllEnds es → Heard Part o a [] b → Heard Part o a es b
     ends-part o None b es ends h = tt
@@ -145,14 +138,7 @@ came-lost i k j o es d ends same never heard read = record {
     ends-lost a b [] ends r = r
     ends-lost a b (event.End reason code ∷ es) ends r =
         let s = ends-lost a b es ends r in record { more = s.more; gave = s.gave; all = s.all }
-    ends-lost a b (event.CharRead bytes ∷ es) ends r = absurd ends
-    ends-lost a b (event.Block id ok ∷ es) ends r = absurd ends
-    ends-lost a b (event.Net packet ∷ es) ends r = absurd ends
-    ends-lost a b (event.Checkpoint idle ∷ es) ends r = absurd ends
-    ends-lost a b (event.Instruction n ∷ es) ends r = absurd ends
-    ends-lost a b (event.Interrupt ∷ es) ends r = absurd ends
-    ends-lost a b (event.Exception ∷ es) ends r = absurd ends
-    ends-lost a b (event.Clock value ∷ es) ends r = absurd ends
+    ends-lost a b (f ∷ es) ends r = absurd ends
 
 -- ---- over all events
 
