@@ -14,9 +14,9 @@ _rrvm_words() {
 _rrvm_icount() {
     local whole=$1 word=$2 head key
     case ${whole##*,} in
-        rr=*) _rrvm_words "record replay" "$word" && return ;;
-        rrfile=*) _rrvm_files "$word" && return ;;
-        shift=*) _rrvm_words "0 1 2 3 4 5 6 7 8 9 10" "$word" && return ;;
+        rr=*) _rrvm_words "record replay" "$word"; return ;;
+        rrfile=*) _rrvm_files "$word"; return ;;
+        shift=*) _rrvm_words "0 1 2 3 4 5 6 7 8 9 10" "$word"; return ;;
     esac
     compopt -o nospace 2>/dev/null
     head=${word%"${word##*,}"}
@@ -38,9 +38,9 @@ _rrvm() {
     [ "$word" = "=" ] && word=''
     before=${COMP_WORDS[at - 1]}
     case $before in
-        -icount) _rrvm_icount "$whole" "$word" && return ;;
-        -bios) _rrvm_files "$word" && return ;;
-        -m) _rrvm_words "1 2 4 8 16 32 64" "$word" && return ;;
+        -icount) _rrvm_icount "$whole" "$word"; return ;;
+        -bios) _rrvm_files "$word"; return ;;
+        -m) _rrvm_words "1 2 4 8 16 32 64" "$word"; return ;;
         -budget | -slice) return ;;
     esac
     case $COMP_CWORD:$first in
