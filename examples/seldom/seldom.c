@@ -1,5 +1,5 @@
 /* Keeps four keys in a hash table with a salt from the host's clock, and ends with code 1 where one isn't
- * found again: in about one run of eleven, where two keys meet in a slot. */
+ * found again: in about one run of twelve, where two keys meet in a slot. */
 #include <stdint.h>
 
 #define UART_THR (*(volatile uint8_t *)0x10000000)
