@@ -1,18 +1,21 @@
 -- What a check comes to, by what the run of its log gave and by what was printed.
 use Rattle.std.proofs.Common.{◌≡◌, ℕ, List, refl, sym, ap, ◌∙◌, subst, arith}
-use Rattle.std.specs.Prelude.{Some, None}
+use Rattle.std.specs.Prelude.{Some, None, Result, Ok, Err, OnOk, IsErrOf, []}
 use Rattle.std.specs.declared.option.Option.{Option}
 use Rattle.outside.specs.Causes.{Rose, both}
 use Rattle.outside.specs.Ledger.{Ledger, opens, source_back}
 use Rattle.outside.specs.Roles.{at}
+use Rattle.outside.specs.Told.{Takes}
 use Rattle.outside.specs.declared.roles.Role.TheVariants.{ConsoleOut, LogIn}
 use Rattle.command_line.specs.Words.{Replaying}
 use Rattle.event_log.specs.Reading.{Reader, Unread, ahead, reading, none_read}
+use Rattle.commands.specs.Asking.{quiet_outcome_of}
 use Rattle.commands.specs.Causes.{IfBoth}
 use Rattle.commands.specs.declared.outcome.Outcome.{Outcome}
 use Rattle.commands.specs.declared.outcome.Outcome.TheVariants as outcome
-use Rattle.check_command.specs.Checks.{IsAccepted, UnacceptedCause, CheckCause, only_judging}
-use Rattle.check_command.specs.Parts.{TellCause}
+use Rattle.commands.specs.declared.printing.PrintFault.{PrintFault}
+use Rattle.commands.specs.declared.printing.PrintFault.TheVariants.{Failed, NoMemory}
+use Rattle.check_command.specs.Checks.{accepted_line, IsAccepted, UnacceptedCause, CheckCause, only_judging}
 use Rattle.check_command.specs.declared.tally.Tally.{Tally}
 use Rattle.check_command.proofs.Judged.{both-some}
 
@@ -57,18 +60,31 @@ accepted-log r t old mid log opened is k =
     (λ bytes file. IsAccepted r bytes file t)) (ap ahead is ∙ all-ahead (old.names r.log)) k)
 
 -- its line was printed or not
-pub told-cause : (r : Replaying) (t : Tally) (old mid new : Ledger) (x : Outcome)
+pub told-cause : (r : Replaying) (t : Tally) (old mid new : Ledger) (line : List ℕ)
+    (printed : Result (Unit {0}) PrintFault) (x : Outcome)
     → IfBoth (old.names r.log) (old.names r.bios) (λ bytes file. IsAccepted r bytes file t)
-    → at mid.faults ConsoleOut ≡ at old.faults ConsoleOut
-    → TellCause t mid new x → CheckCause r old new x
-told-cause r t old mid new outcome.Printed k same told =
-    both-some (old.names r.log) (old.names r.bios) (λ bytes file a. (t, a, told)) k
-told-cause r t old mid new outcome.QuietFailed k same told = (
-  subst (λ (n : ℕ). Rose n (at new.faults ConsoleOut)) same told,
-  both-some (old.names r.log) (old.names r.bios) (λ bytes file a. (t, a)) k,
-)
-told-cause r t old mid new outcome.NoMemory k same told = tt
-told-cause r t old mid new other k same told = absurd told
+    → at mid.faults ConsoleOut ≡ at old.faults ConsoleOut → line ≡ accepted_line t
+    → OnOk printed (Takes (Some []) (at new.last ConsoleOut) line)
+    → (IsErrOf printed Failed → Rose (at mid.faults ConsoleOut) (at new.faults ConsoleOut))
+    → x ≡ quiet_outcome_of printed → CheckCause r old new x
+told-cause r t old mid new line printed x k same is taken failed by =
+    subst (λ (z : Outcome). CheckCause r old new z) (sym by) (told printed taken failed)
+  where
+    told : (p : Result (Unit {0}) PrintFault)
+        → OnOk p (Takes (Some []) (at new.last ConsoleOut) line)
+        → (IsErrOf p Failed → Rose (at mid.faults ConsoleOut) (at new.faults ConsoleOut))
+        → CheckCause r old new (quiet_outcome_of p)
+    told (Ok done) took fault =
+        both-some (old.names r.log) (old.names r.bios) (λ bytes file a. (
+          t,
+          a,
+          subst (λ (z : List ℕ). Takes (Some []) (at new.last ConsoleOut) z) is took,
+        )) k
+    told (Err Failed) took fault = (
+      subst (λ (n : ℕ). Rose n (at new.faults ConsoleOut)) same (fault refl),
+      both-some (old.names r.log) (old.names r.bios) (λ bytes file a. (t, a)) k,
+    )
+    told (Err NoMemory) took fault = tt
 
 -- ---- where it has none
 

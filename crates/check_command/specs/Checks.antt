@@ -1,5 +1,5 @@
 -- What a check of a log gives over a world: a replay whose console nobody sees.
-use Rattle.std.specs.Prelude.{◌≡◌, ◌≤◌, ◌^◌, ℕ, ⊤, List, [], ◌++◌, length, drop, codes, Some, Result, Ok, Err}
+use Rattle.std.specs.Prelude.{◌≡◌, ◌≤◌, ◌^◌, ℕ, ⊤, List, [], ◌++◌, length, drop, codes, Some, None, Result, Ok, Err}
 use Rattle.std.specs.declared.option.Option.{Option}
 use Rattle.std.specs.Fmt.{decimal}
 use Rattle.outside.specs.Causes.{Rose}
@@ -18,6 +18,7 @@ use Rattle.rr_engine.specs.declared.replaying.ReplayEnd.{ReplayEnd}
 use Rattle.rr_engine.specs.declared.replaying.ReplayEnd.TheVariants as replay_end
 use Rattle.run_files.specs.Ledgers.{only, only_opening}
 use Rattle.commands.specs.Causes.{IfBoth, ReplayCause}
+use Rattle.commands.specs.Faults.{Fault, fault_of}
 use Rattle.commands.specs.Replays.{Starts, IsWrongLog, IsTooLong}
 use Rattle.commands.specs.declared.outcome.Outcome.{Outcome}
 use Rattle.commands.specs.declared.outcome.Outcome.TheVariants.{Printed, CannotOpen, CannotRead, LogUnreadable, BadFirmware, HeaderRefused, LogRefused, ImagesDiffer, LogTooLong, QuietFailed, NoMemory}
@@ -119,3 +120,8 @@ judged replay_end.LogRead = Err LogUnreadable
 judged replay_end.LogTooLong = Err LogTooLong
 judged (replay_end.Refused refusal) = Err (LogRefused refusal)
 judged replay_end.NoMemory = Err NoMemory
+
+-- the fault that is named where a log has no tally
+abbrev pub verdict_fault : Result Tally Outcome → Option Fault
+verdict_fault (Ok t) = None
+verdict_fault (Err outcome) = fault_of outcome

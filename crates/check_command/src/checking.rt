@@ -12,9 +12,8 @@ ghost use Rattle.commands.specs.Openings.{replay_openings};
 ghost use Rattle.check_command.specs.Checks.{CheckCause, IsCheckedFront, only_checking};
 
 use crate::judging::judge;
-use crate::telling::tell;
 use board::Steps;
-use commands::Outcome;
+use commands::{Outcome, print, quiet_outcome};
 use event_log::{LogReader, ReadAhead};
 use outside::{OpenError, Role, World};
 use std::alloc::Global;
@@ -55,8 +54,12 @@ pub fn check<W: World, L: Ledger>(
     };
     let verdict = judge(alloc, bios, &mut reader, world, steps);
     world.take_source(Role::LogIn, reader.into_inner());
-    match verdict {
-        Ok(tally) => tell(alloc, tally, world),
-        Err(outcome) => outcome,
-    }
+    let tally = match verdict {
+        Ok(tally) => tally,
+        Err(outcome) => return outcome,
+    };
+    let Ok(line) = tally.line(alloc) else {
+        return Outcome::NoMemory;
+    };
+    quiet_outcome(print(line.as_str(), world))
 }

@@ -9,8 +9,7 @@ ghost use Rattle.run_files.specs.Files.{firmware_opening};
 ghost use Rattle.run_files.specs.Ledgers.{Balanced};
 ghost use Rattle.commands.specs.Asking.{replaying_of};
 ghost use Rattle.commands.specs.Playing.{PlayingKeptBut};
-ghost use Rattle.check_command.specs.Checks.{judged as judged_of, Judges, only_judging};
-ghost use Rattle.check_command.specs.Parts.{verdict_fault};
+ghost use Rattle.check_command.specs.Checks.{judged as judged_of, Judges, only_judging, verdict_fault};
 
 use crate::nowhere::Nowhere;
 use crate::tally::Tally;

@@ -6,7 +6,6 @@ mod checking;
 mod judging;
 mod nowhere;
 mod tally;
-mod telling;
 #[cfg(test)]
 mod tests;
 

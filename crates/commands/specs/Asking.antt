@@ -1,5 +1,5 @@
 -- What the words ask for, and how the parts of a run become its outcome.
-use Rattle.std.specs.Prelude.{ℕ, List, [], ◌==◌, None, if◌then◌else◌}
+use Rattle.std.specs.Prelude.{ℕ, List, [], ◌==◌, None, Result, Ok, Err, if◌then◌else◌}
 use Rattle.sha2.specs.Sha256.{sha256}
 use Rattle.outside.specs.declared.roles.Role.TheVariants.{Firmware, LogOut}
 use Rattle.command_line.specs.declared.line.RecordWords.{RecordWords}
@@ -20,6 +20,8 @@ use Rattle.run_files.specs.declared.firmware.FirmwareFault.{FirmwareFault}
 use Rattle.run_files.specs.declared.firmware.FirmwareFault.TheVariants as fault
 use Rattle.commands.specs.declared.devices.RecordingEnd.{RecordingEnd}
 use Rattle.commands.specs.declared.devices.RecordingEnd.TheVariants as ends
+use Rattle.commands.specs.declared.printing.PrintFault.{PrintFault}
+use Rattle.commands.specs.declared.printing.PrintFault.TheVariants as print_fault
 
 -- what the words of a recording ask for
 abbrev pub asked : RecordWords → Recording
@@ -103,3 +105,9 @@ replay_outcome_of replay_end.LogRead = outcome.LogUnreadable
 replay_outcome_of replay_end.LogTooLong = outcome.LogTooLong
 replay_outcome_of (replay_end.Refused refusal) = outcome.LogRefused refusal
 replay_outcome_of replay_end.NoMemory = outcome.NoMemory
+
+-- how a quiet command ends whose answer was printed so
+abbrev pub quiet_outcome_of : Result (Unit {0}) PrintFault → Outcome
+quiet_outcome_of (Ok done) = outcome.Printed
+quiet_outcome_of (Err print_fault.Failed) = outcome.QuietFailed
+quiet_outcome_of (Err print_fault.NoMemory) = outcome.NoMemory

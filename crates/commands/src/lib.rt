@@ -11,7 +11,7 @@ mod refusing;
 mod replaying;
 
 pub use outcome::Outcome;
-pub use printing::{HELP, PrintFault, VERSION, print};
+pub use printing::{HELP, PrintFault, VERSION, print, quiet_outcome};
 pub use quiet::demonstrate;
 pub use recording::run;
 pub use refusing::{header_outcome, image_outcome};

@@ -7,8 +7,11 @@ ghost use Rattle.outside.specs.Roles.{at};
 ghost use Rattle.outside.specs.declared.roles.Role.TheVariants.{ConsoleOut};
 ghost use Rattle.outside.specs.Openings.{OpensFront};
 ghost use Rattle.run_files.specs.Ledgers.{only, Balanced};
+ghost use Rattle.commands.specs.Asking.{quiet_outcome_of};
+ghost use Rattle.commands.specs.Faults.{fault_of, KeptBut};
 ghost use Rattle.commands.specs.Openings.{console_openings};
 
+use crate::outcome::Outcome;
 use outside::{Careful, Role, World};
 
 /// What `--version` prints.
@@ -75,8 +78,8 @@ pub enum PrintFault {
 pub fn print<W: World>(text: &str, world: &mut W) -> Result<(), PrintFault>
     ensures whole { OnOk result
         (Takes (Some []) (at (W.ledger world.new).last ConsoleOut) text.now) }
-    ensures kept { OnOk result (at (W.ledger world.new).faults ConsoleOut
-        ≡ at (W.ledger world.old).faults ConsoleOut) }
+    ensures kept { KeptBut (fault_of (quiet_outcome_of result)) (W.ledger world.old)
+        (W.ledger world.new) }
     ensures front { at (W.ledger world.old).opened ConsoleOut < at (W.ledger world.new).opened ConsoleOut
         → TakesFront (Some []) (at (W.ledger world.new).last ConsoleOut) text.now }
     ensures failed { IsErrOf result PrintFault.Failed
@@ -96,5 +99,16 @@ pub fn print<W: World>(text: &str, world: &mut W) -> Result<(), PrintFault>
     match written {
         Ok(()) => Ok(()),
         Err(_) => Err(PrintFault::Failed),
+    }
+}
+
+/// How a quiet command ends whose answer was printed so.
+pub fn quiet_outcome(printed: Result<(), PrintFault>) -> Outcome
+    ensures { result ≡ quiet_outcome_of printed }
+{
+    match printed {
+        Ok(()) => Outcome::Printed,
+        Err(PrintFault::Failed) => Outcome::QuietFailed,
+        Err(PrintFault::NoMemory) => Outcome::NoMemory,
     }
 }

@@ -1,17 +1,16 @@
 //! The commands that need no threads.
 
-ghost use Rattle.std.specs.Prelude.{◌≡◌, ◌<◌, ◌≤◌, ◌⊎◌};
-ghost use Rattle.outside.specs.Causes.{Rose};
+ghost use Rattle.std.specs.Prelude.{◌≡◌, ◌<◌, ◌≤◌};
 ghost use Rattle.outside.specs.Roles.{at};
 ghost use Rattle.outside.specs.declared.roles.Role.TheVariants.{ConsoleOut};
 ghost use Rattle.outside.specs.Openings.{OpensFront};
 ghost use Rattle.commands.specs.Faults.{NamesFault};
 ghost use Rattle.run_files.specs.Ledgers.{only, Balanced};
 ghost use Rattle.commands.specs.Openings.{console_openings};
-ghost use Rattle.commands.specs.Causes.{IsDemoPrinted, IsDemoPrintedFront};
+ghost use Rattle.commands.specs.Causes.{DemoCause, IsDemoPrintedFront};
 
 use crate::outcome::Outcome;
-use crate::printing::{PrintFault, print};
+use crate::printing::{print, quiet_outcome};
 use board::Steps;
 use demo_run::demo_text;
 use outside::World;
@@ -27,13 +26,7 @@ pub fn demonstrate<W: World, L: Ledger>(
 ) -> Outcome
     requires some { 1 ≤ n }
     requires few { n ≤ 2000 }
-    ensures printed { result ≡ Outcome.Printed
-        → IsDemoPrinted n (W.ledger world.new) }
-    ensures failed { result ≡ Outcome.QuietFailed
-        → Rose (at (W.ledger world.old).faults ConsoleOut)
-        (at (W.ledger world.new).faults ConsoleOut) }
-    ensures which { (result ≡ Outcome.Printed)
-        ⊎ ((result ≡ Outcome.QuietFailed) ⊎ (result ≡ Outcome.NoMemory)) }
+    ensures cause { DemoCause n (W.ledger world.old) (W.ledger world.new) result }
     ensures front { at (W.ledger world.old).opened ConsoleOut
         < at (W.ledger world.new).opened ConsoleOut
         → IsDemoPrintedFront n (W.ledger world.new) }
@@ -46,9 +39,5 @@ pub fn demonstrate<W: World, L: Ledger>(
     let Ok(text) = demo_text(alloc, n, steps) else {
         return Outcome::NoMemory;
     };
-    match print(text.as_str(), world) {
-        Ok(()) => Outcome::Printed,
-        Err(PrintFault::Failed) => Outcome::QuietFailed,
-        Err(PrintFault::NoMemory) => Outcome::NoMemory,
-    }
+    quiet_outcome(print(text.as_str(), world))
 }

@@ -12,7 +12,6 @@ use Rattle.elf_load.specs.Load.{loaded, LiesInRam}
 use Rattle.event_log.specs.declared.event.Event.{Event}
 use Rattle.event_log.specs.declared.event.Event.TheVariants as event
 use Rattle.event_log.specs.declared.header.Header.{Header}
-use Rattle.event_log.specs.declared.parse.ParseError.{ParseError}
 use Rattle.event_log.specs.declared.parse.ParseError.TheVariants as parse
 use Rattle.event_log.specs.declared.stream_error.StreamError.{StreamError}
 use Rattle.event_log.specs.declared.stream_error.StreamError.TheVariants as stream
@@ -22,8 +21,10 @@ use Rattle.event_log.specs.Spelling.{text, texts, IsEvent}
 use Rattle.event_log.proofs.FrontLemmas.{same_front}
 use Rattle.event_log.proofs.HeaderLaws.{header_length, one_headers}
 use Rattle.board.specs.State.{State}
+use Rattle.board.specs.Laws.{IsLaterBy}
 use Rattle.board.specs.Runs.{run, turns}
-use Rattle.board.specs.Reset.{start_of}
+use Rattle.board.specs.Reset.{reset, start_of}
+use Rattle.board.proofs.ClockLaws.{run-counts}
 use Rattle.log_order.proofs.Following.{text-some}
 use Rattle.log_order.proofs.Verdicts.{whole-right}
 use Rattle.log_order.specs.Order.{IsFirstWrong, IsWhole, IsWrong}
@@ -346,34 +347,60 @@ ends-whole start h log console p q (Refused refusal) r k whole memory =
     not-refused start h log console p q refusal r k
 ends-whole start h log console p q NoMemory r k whole memory = memory refl
 
--- the console took what the recording's took
-pub shown-again : (start : State) (h : Header) (log console shown : List ℕ) (p q : Played)
-    (reason code accepted turns : ℕ)
-    → Repeats start h log console p q → PlaysWhole start p q reason code accepted turns
-    → q.console ≡ Some shown → shown ≡ console
-shown-again start h log console shown p q reason code accepted turns r k told =
+-- the events whose text the log is are those that were replayed
+replayed-events : (start : State) (h : Header) (log console : List ℕ) (p q : Played)
+    (reason code accepted turned : ℕ) (events : List Event)
+    → Repeats start h log console p q
+    → (k : PlaysWhole start p q reason code accepted turned) → HasEvents log events
+    → k.events ≡ events
+replayed-events start h log console p q reason code accepted turned events r k has =
     let text : drop 98 log ≡ texts k.events =
     ahead-is (ahead p.log) (drop 98 log) (λ bytes. bytes ≡ texts k.events) r.bytes k.whole in
-    let events : k.events ≡ r.recording.events =
-    texts-same k.events r.recording.events k.plays.are r.recording.are
-    (sym text ∙ recording-text start h log console r.is r.recording) in
+    texts-same k.events events k.plays.are has.are (sym text ∙ has.text)
+
+recording-events : (start : State) (h : Header) (log console : List ℕ) → IsHeader h
+    → (r : IsRecording start (header_text h) log console) → HasEvents log r.events
+recording-events start h log console is r =
+    record { are = r.are; text = recording-text start h log console is r }
+
+-- the console took what the recording's took
+pub shown-again : (start : State) (h : Header) (log console shown : List ℕ) (p q : Played)
+    (reason code accepted turned : ℕ)
+    → Repeats start h log console p q → PlaysWhole start p q reason code accepted turned
+    → q.console ≡ Some shown → shown ≡ console
+shown-again start h log console shown p q reason code accepted turned r k told =
+    let events = replayed-events start h log console p q reason code accepted turned
+    r.recording.events r k (recording-events start h log console r.is r.recording) in
     let last : k.last ≡ r.recording.last =
     state-is k.last r.recording.last
     (sym k.plays.runs ∙ ap (run start) events ∙ r.recording.runs) in
     took p.console q.console shown k.last.devices.uart.out r.fresh told k.console
     ∙ ap (λ (g : State). g.devices.uart.out) last ∙ sym r.recording.console
 
+no-turns : (h : Header) (firmware : Loaded) → (start_of h firmware).devices.time.count ≡ 0
+unfolding reset
+no-turns h firmware = refl
+
+-- the turns that it made are those of the log's events
+pub counted-again : (firmware : Loaded) (h : Header) (log console : List ℕ) (p q : Played)
+    (reason code accepted turned : ℕ) (events : List Event)
+    → Repeats (start_of h firmware) h log console p q
+    → PlaysWhole (start_of h firmware) p q reason code accepted turned → HasEvents log events
+    → turned ≡ turns events
+counted-again firmware h log console p q reason code accepted turned events r k has =
+    let start = start_of h firmware in
+    let later = subst (λ (g : Option State). IfSome g (IsLaterBy (turns k.events) start))
+    k.plays.runs (run-counts k.events start) in
+    let same = ap turns (replayed-events start h log console p q reason code accepted turned events
+    r k has) in
+    omega (arith, k.made, later, no-turns h firmware, same)
+
 -- ---- the whole demonstration
 
-pub if-ok : {T E : Type 0} {P Q : T → Type 0} (r : Result T E) → ((x : T) → P x → Q x) → IfOk r P
+if-ok : {T E : Type 0} {P Q : T → Type 0} (r : Result T E) → ((x : T) → P x → Q x) → IfOk r P
     → IfOk r Q
 if-ok (Ok x) f k = f x k
 if-ok (Err e) f k = tt
-
-pub recording-events : (start : State) (h : Header) (log console : List ℕ) → IsHeader h
-    → (r : IsRecording start (header_text h) log console) → HasEvents log r.events
-recording-events start h log console is r =
-    record { are = r.are; text = recording-text start h log console is r }
 
 -- the line with these numbers
 abbrev pub numbers_line : ℕ → ℕ → ℕ → ℕ → List ℕ

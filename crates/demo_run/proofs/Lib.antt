@@ -1,2 +1,1 @@
-pub mod DemoTurns
 pub mod DemoRuns

@@ -1,15 +1,17 @@
 //! A demonstration: the run of a guest is recorded and replayed over devices in memory.
 
-ghost use Rattle.std.specs.Prelude.{◌≡◌, ◌≤◌, ◌^◌, drop, length, IfOk, Ok, Some, string_bytes};
+ghost use Rattle.std.specs.Prelude.{◌≡◌, ◌≤◌, ◌^◌, ◌++◌, List, drop, length, IfOk, Ok, Some, string_bytes, codes};
+ghost use Rattle.std.specs.Fmt.{decimal};
 ghost use Rattle.elf_load.specs.Load.{loaded, LiesInRam};
+ghost use Rattle.event_log.specs.declared.event.Event.{Event as AnEvent};
 ghost use Rattle.event_log.specs.declared.header.Header.{Header as AHeader};
 ghost use Rattle.event_log.specs.HeaderFormat.{IsHeader, header_text};
 ghost use Rattle.board.specs.Reset.{start_of};
+ghost use Rattle.board.specs.Runs.{turns};
 ghost use Rattle.run_files.specs.Headers.{header_of};
 ghost use Rattle.run_files.specs.Headers.{HasHeader};
-ghost use Rattle.demo_run.specs.Demos.{demo_recording, Demonstration, demo_line, IsRaw, IsRecording, IsRecordedFrom, IsBehindHeader};
+ghost use Rattle.demo_run.specs.Demos.{demo_recording, Demonstration, demo_line, IsRaw, IsRecording, IsRecordedFrom, IsBehindHeader, HasEvents};
 
-use crate::counts::{line, turns};
 use crate::demo_clock::StillClock;
 use crate::guests::guest_of;
 use board::Steps;
@@ -29,6 +31,13 @@ const LOG_LIMIT: usize = 1 << 32;
 struct Recorded {
     log: Vec<u8>,
     console: Vec<u8>,
+}
+
+/// What a replay gave.
+#[derive(Drop)]
+struct Replayed {
+    console: Vec<u8>,
+    turns: u64,
 }
 
 /// The header of a recording of a file with the defaults, without a disk.
@@ -128,17 +137,19 @@ fn open(alloc: Global, log: &[u8]) -> Result<(Header, LogReader<SureSource>), No
     }
 }
 
-/// Replays a log that was recorded, and gives what the console took.
+/// Replays a log that was recorded, and gives what the console took and the turns that were made.
 fn replay<L: Ledger>(
     alloc: Global,
     firmware: &Loaded,
     recorded: &Recorded,
     steps: &mut Steps<L>,
-) -> Result<Vec<u8>, NoMemory>
+) -> Result<Replayed, NoMemory>
     requires recorded { IsRecordedFrom firmware.now
         recorded.now.log.items recorded.now.console.items }
     requires short { length recorded.now.log.items ≤ 2 ^ 32 }
-    ensures { IfOk result (λ v. v.items ≡ recorded.now.console.items) }
+    ensures console { IfOk result (λ r. r.console.items ≡ recorded.now.console.items) }
+    ensures turns { IfOk result (λ r. (events : List AnEvent)
+        → HasEvents recorded.now.log.items events → r.turns ≡ turns events) }
 {
     let (header, mut log) = open(alloc, &recorded.log)?;
     let mut out = Careful::new(SureSink::new(alloc));
@@ -146,10 +157,29 @@ fn replay<L: Ledger>(
     // The log's source tells that it never failed.
     let _ = log.into_inner();
     match end {
-        ReplayEnd::End { .. } => taken(alloc, &out.into_inner()),
+        ReplayEnd::End { turns, .. } => {
+            let console = taken(alloc, &out.into_inner())?;
+            Ok(Replayed { console, turns })
+        }
         ReplayEnd::NoMemory => Err(AllocError),
         _ => unreachable!(),
     }
+}
+
+/// The line of a demonstration.
+fn line(
+    alloc: Global,
+    letters: u32,
+    turns: u64,
+    console: usize,
+    log: usize,
+) -> Result<String, NoMemory>
+    ensures { IfOk result (λ s. string_bytes s
+        ≡ codes "demo " ++ decimal letters ++ codes ": turns " ++ decimal turns
+        ++ codes ", console " ++ decimal console ++ codes ", log " ++ decimal log
+        ++ codes ", replay equal\n") }
+{
+    format!(in alloc; "demo {letters}: turns {turns}, console {console}, log {log}, replay equal\n")
 }
 
 /// The line of a demonstration by the guest that prints n letters: its run is recorded and replayed
@@ -164,9 +194,14 @@ pub fn demo_text<L: Ledger>(alloc: Global, n: u32, steps: &mut Steps<L>) -> Resu
     let header = header(&file);
     let recorded = record(alloc, &header, &firmware, steps)?;
     let replayed = replay(alloc, &firmware, &recorded, steps)?;
-    if replayed != recorded.console {
+    if replayed.console != recorded.console {
         unreachable!();
     }
-    let turns = turns(alloc, &recorded.log)?;
-    line(alloc, n, turns, recorded.console.len(), recorded.log.len())
+    line(
+        alloc,
+        n,
+        replayed.turns,
+        recorded.console.len(),
+        recorded.log.len(),
+    )
 }

@@ -1,7 +1,6 @@
 //! A demonstration: a guest that prints letters is recorded and replayed over devices in memory.
 #![tactic(auto)]
 
-mod counts;
 mod demo;
 mod demo_clock;
 mod guests;

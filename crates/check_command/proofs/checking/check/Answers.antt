@@ -1,7 +1,8 @@
-use Rattle.std.proofs.Common.{◌<◌, ℕ, [], ◌∷◌, Some, ap, sym, subst}
+use Rattle.std.proofs.Common.{◌<◌, ◌∙◌, ℕ, List, [], ◌∷◌, Some, ap, sym, subst}
 use Rattle.outside.specs.Ledger.{Ledger}
 use Rattle.outside.specs.Openings.{OpensFront}
 use Rattle.outside.specs.Roles.{at}
+use Rattle.outside.specs.Told.{TakesFront}
 use Rattle.outside.specs.declared.openings.Opening.TheVariants.{Source}
 use Rattle.outside.specs.declared.roles.Role.TheVariants.{ConsoleOut, LogIn}
 use Rattle.outside.proofs.OpeningLemmas.{OpensFront-after, OpensFront-longer}
@@ -12,8 +13,8 @@ use Rattle.check_command.proofs.Judged.{both-some}
 use Rattle.check_command.proofs.Checked.{opened-reader, console-untouched, accepted-log, told-cause, untold-cause}
 use Rattle.check_command.proofs.checking.check.Goals as goal
 
-pub returns-in-Ok-verdict-clause-cause : goal.returns-in-Ok-verdict-clause-cause
-returns-in-Ok-verdict-clause-cause g c =
+pub returns-clause-cause : goal.returns-clause-cause
+returns-clause-cause g c =
     let words = replaying_of c.args.log.now c.args.bios.now in
     let old = g.W.World.ledger c.args.world.now in
     let opened = g.W.World.ledger c.source.new.self in
@@ -27,17 +28,18 @@ returns-in-Ok-verdict-clause-cause g c =
     words.log (g.W.Source.Source.faults c.into_inner.result)
     (g.W.Source.Source.left c.into_inner.result) c.in-Ok-source.ensures.opened
     c.in-Ok-verdict.ensures.rest c.take_source.ensures.back in
-    told-cause words c.in-Ok-verdict.tally old back (g.W.World.ledger c.tell.new.world)
-    c.tell.result
+    told-cause words c.in-Ok-verdict.tally old back (g.W.World.ledger c.print.new.world)
+    c.as_str.result.now c.print.result c.quiet_outcome.result
     (accepted-log words c.in-Ok-verdict.tally old opened c.over-reader.result
     c.in-Ok-source.ensures.opened reader (c.in-Ok-verdict.ensures.judges words.log))
-    same.0 c.tell.ensures.cause
+    same.0 (c.as_str.ensures.value ∙ c.in-Ok-line.ensures) c.print.ensures.whole
+    c.print.ensures.failed c.quiet_outcome.ensures
 
-pub returns-in-Ok-verdict-clause-shown : goal.returns-in-Ok-verdict-clause-shown
-returns-in-Ok-verdict-clause-shown g c = λ more.
+pub returns-clause-shown : goal.returns-clause-shown
+returns-clause-shown g c = λ more.
     let words = replaying_of c.args.log.now c.args.bios.now in
     let old = g.W.World.ledger c.args.world.now in
-    let new = g.W.World.ledger c.tell.new.world in
+    let new = g.W.World.ledger c.print.new.world in
     let opened = g.W.World.ledger c.source.new.self in
     let reader = opened-reader c.over-reader.result
     (g.W.Source.Source.left c.in-Ok-source.source) (old.names words.log)
@@ -48,24 +50,26 @@ returns-in-Ok-verdict-clause-shown g c = λ more.
     (g.W.World.ledger c.take_source.new.self) words.log
     (g.W.Source.Source.faults c.into_inner.result) (g.W.Source.Source.left c.into_inner.result)
     c.in-Ok-source.ensures.opened c.in-Ok-verdict.ensures.rest c.take_source.ensures.back in
-    let front = c.tell.ensures.front
-    (subst (λ (n : ℕ). n < at new.opened ConsoleOut) (sym same.1) more) in
+    let front = subst (λ (z : List ℕ). TakesFront (Some []) (at new.last ConsoleOut) z)
+    (c.as_str.ensures.value ∙ c.in-Ok-line.ensures)
+    (c.print.ensures.front
+    (subst (λ (n : ℕ). n < at new.opened ConsoleOut) (sym same.1) more)) in
     both-some (old.names words.log) (old.names words.bios)
     (λ bytes file a. (c.in-Ok-verdict.tally, a, front))
     (accepted-log words c.in-Ok-verdict.tally old opened c.over-reader.result
     c.in-Ok-source.ensures.opened reader (c.in-Ok-verdict.ensures.judges words.log))
 
 -- the log was opened, then the firmware, then the console
-pub returns-in-Ok-verdict-clause-openings : goal.returns-in-Ok-verdict-clause-openings
-returns-in-Ok-verdict-clause-openings g c =
+pub returns-clause-openings : goal.returns-clause-openings
+returns-clause-openings g c =
     let bios = c.args.bios.now in
-    let last = g.W.World.ledger c.tell.new.world in
+    let last = g.W.World.ledger c.print.new.world in
     OpensFront-after _ _ _ (Source LogIn (Some c.args.log.now) ∷ []) (played_openings bios)
     (ap (λ (l : Ledger). l.openings) c.in-Ok-source.ensures.opened)
     (OpensFront-after _ _ _ (firmware_opening bios ∷ []) console_openings
     c.in-Ok-verdict.ensures.opened
     (subst (λ z. OpensFront z last.openings console_openings)
-    (ap (λ (l : Ledger). l.openings) c.take_source.ensures.back) c.tell.ensures.openings))
+    (ap (λ (l : Ledger). l.openings) c.take_source.ensures.back) c.print.ensures.openings))
 
 pub returns-in-Err-clause-cause : goal.returns-in-Err-clause-cause
 returns-in-Err-clause-cause g c =
@@ -96,3 +100,17 @@ returns-in-Err-clause-openings g c =
     (Source LogIn (Some c.args.log.now) ∷ []) (played_openings bios)
     (ap (λ (l : Ledger). l.openings) c.in-Ok-source.ensures.opened)
     (OpensFront-longer _ _ (firmware_opening bios ∷ []) console_openings c.in-Err.ensures.openings))
+
+-- the same where no memory was left for the line
+pub returns-in_default-line-clause-openings : goal.returns-in_default-line-clause-openings
+returns-in_default-line-clause-openings g c =
+    let bios = c.args.bios.now in
+    let old = g.W.World.ledger c.args.world.now in
+    let mid = g.W.World.ledger c.judge-verdict.new.world in
+    let due = Source LogIn (Some c.args.log.now) ∷ played_openings bios in
+    subst (λ z. OpensFront old.openings z due)
+    (sym (ap (λ (l : Ledger). l.openings) c.take_source.ensures.back))
+    (OpensFront-after old.openings (g.W.World.ledger c.source.new.self).openings mid.openings
+    (Source LogIn (Some c.args.log.now) ∷ []) (played_openings bios)
+    (ap (λ (l : Ledger). l.openings) c.in-Ok-source.ensures.opened)
+    (OpensFront-longer _ _ (firmware_opening bios ∷ []) console_openings c.in-Ok-verdict.ensures.openings))

@@ -1,7 +1,7 @@
 use Rattle.std.proofs.Common.{◌∙◌, sym}
 use Rattle.board.specs.Reset.{start_of}
 use Rattle.rr_engine.specs.Replaying.{played}
-use Rattle.demo_run.proofs.DemoRuns.{copy-starts, recorded-from, repeats, ends-whole, shown-again, if-ok}
+use Rattle.demo_run.proofs.DemoRuns.{copy-starts, recorded-from, repeats, ends-whole, shown-again, counted-again}
 use Rattle.demo_run.proofs.demo.replay.Goals as goal
 
 pub open-requires-clause-header : goal.open-requires-clause-header
@@ -32,19 +32,34 @@ unreachable-requires g c =
     (c.new-out.ensures ∙ c.new.ensures) c.into_inner.ensures.faults)
     c.replay_one-end.ensures.replays c.in_default.not-End c.in_default.not-NoMemory
 
-pub returns-in-End : goal.returns-in-End
-returns-in-End g c =
+pub returns-in_ok-console-in-End-clause-console : goal.returns-in_ok-console-in-End-clause-console
+returns-in_ok-console-in-End-clause-console g c =
     let h = c.in_ok-header.header in
     let recorded = c.args.recorded.now in
     let old = c.in_ok-header.log in
     let new = c.replay_one-end.new.log in
     let out = c.replay_one-end.new.out in
-    if-ok c.taken-in-End.result (λ v took.
-    shown-again (start_of h c.args.firmware.now) h recorded.log.items recorded.console.items v.items
-    (played old c.new-out.result 0) (played new out 0) c.in-End.reason c.in-End.code
-    c.in-End.accepted c.in-End.turns
+    shown-again (start_of h c.args.firmware.now) h recorded.log.items recorded.console.items
+    c.in_ok-console-in-End.console.items (played old c.new-out.result 0) (played new out 0)
+    c.in-End.reason c.in-End.code c.in-End.accepted c.in-End.turns
     (repeats c.args.firmware.now h recorded.log.items c.deref.result.now recorded.console.items
     old new c.new-out.result out c.requires.recorded c.requires.short c.deref.ensures.value
     c.in_ok-header.ensures.header c.in_ok-header.ensures.behind
     (c.new-out.ensures ∙ c.new.ensures) c.into_inner.ensures.faults)
-    c.in-End.ensures.replays (sym c.into_inner-in-End.ensures ∙ took)) c.taken-in-End.ensures
+    c.in-End.ensures.replays (sym c.into_inner-in-End.ensures ∙ c.in_ok-console-in-End.ensures)
+
+pub returns-in_ok-console-in-End-clause-turns : goal.returns-in_ok-console-in-End-clause-turns
+returns-in_ok-console-in-End-clause-turns g c = λ events has.
+    let h = c.in_ok-header.header in
+    let recorded = c.args.recorded.now in
+    let old = c.in_ok-header.log in
+    let new = c.replay_one-end.new.log in
+    let out = c.replay_one-end.new.out in
+    counted-again c.args.firmware.now h recorded.log.items recorded.console.items
+    (played old c.new-out.result 0) (played new out 0)
+    c.in-End.reason c.in-End.code c.in-End.accepted c.in-End.turns events
+    (repeats c.args.firmware.now h recorded.log.items c.deref.result.now recorded.console.items
+    old new c.new-out.result out c.requires.recorded c.requires.short c.deref.ensures.value
+    c.in_ok-header.ensures.header c.in_ok-header.ensures.behind
+    (c.new-out.ensures ∙ c.new.ensures) c.into_inner.ensures.faults)
+    c.in-End.ensures.replays has

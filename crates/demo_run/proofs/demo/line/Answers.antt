@@ -1,5 +1,5 @@
 use Rattle.std.proofs.Common.{rules, append_assoc}
-use Rattle.demo_run.proofs.counts.line.Goals as goal
+use Rattle.demo_run.proofs.demo.line.Goals as goal
 
 pub returns : goal.returns
 returns c = search (rules, append_assoc)
