@@ -8,3 +8,4 @@ pub mod Opening
 pub mod Parting
 pub mod Least
 mod LastAt
+pub mod Lying

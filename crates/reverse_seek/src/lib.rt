@@ -14,6 +14,7 @@ mod script;
 mod snapshots;
 mod stride;
 mod timeline;
+mod waymarks;
 
 pub use error::SeekError;
 pub use laws::state_is_the_last_at_its_count;

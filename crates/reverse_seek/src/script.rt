@@ -1,8 +1,10 @@
 //! The accepted part of a log, and the machine that it starts from.
 
-ghost use Rattle.std.specs.Prelude.{◌≡◌, ◌≤◌, ◌^◌, length, IfOk};
+ghost use Rattle.std.specs.Prelude.{◌≡◌, ◌≤◌, ◌^◌, [], length, IfOk};
+ghost use Rattle.std.specs.List.{AllByRecursion};
 
 use crate::mark::Mark;
+use crate::waymarks::Waymarks;
 use board::{Machine, Steps};
 use log_order::{FeedError, Found, Refusal, Runner};
 use outside::NoMemory;
@@ -11,7 +13,7 @@ use std::marker::Model;
 use std::sync::ledger::Ledger;
 
 /// Where the first event stands in a log, after the header.
-const FIRST_PLACE: usize = 98;
+pub const FIRST_PLACE: usize = 98;
 
 /// A log, where its accepted part ends, the last count of turns there, and the machine before the
 /// first event. Contracts see the events of that part too.
@@ -56,21 +58,26 @@ impl Model for Script {
 impl Script {
     ghost use Rattle.reverse_seek.specs.Script.{IsScript, IsPart, Reads, first_place};
     ghost use Rattle.reverse_seek.specs.Mark.{Stands};
+    ghost use Rattle.reverse_seek.specs.Waymarks.{AllLie};
 
     /// The accepted part of a log whose header has made the machine, and why no more of it is
-    /// accepted.
+    /// accepted. Waymarks are kept on the way.
     pub fn read<L: Ledger>(
         alloc: Global,
         machine: Machine,
         log: Vec<u8>,
+        ways: &mut Waymarks,
         steps: &mut Steps<L>,
     ) -> Result<(Script, Option<Refusal>), NoMemory>
         requires begins { machine.devices.time.count ≡ 0 }
         requires header { first_place ≤ length log.items }
-        ensures { IfOk result (λ found. Reads machine log.items found.0 found.1) }
+        requires none { ways.old.marks.items ≡ [] }
+        ensures reads { IfOk result (λ found. Reads machine log.items found.0 found.1) }
+        ensures ways { IfOk result (λ found.
+            AllByRecursion (Stands found.0) ways.new.marks.items) }
     {
         let start = machine.share()?;
-        let part = Script::part(alloc, log.as_slice(), machine, steps)?;
+        let part = Script::part(alloc, log.as_slice(), machine, ways, steps)?;
         let Part { end, last, refusal } = part;
         let script = Script {
             start,
@@ -81,21 +88,25 @@ impl Script {
         Ok((script, refusal))
     }
 
-    /// The accepted part of a log, run on a machine.
+    /// The accepted part of a log, run on a machine, and waymarks on the way.
     #[tactic(auto, using(crate::proofs::Parting::parting))]
     fn part<L: Ledger>(
         alloc: Global,
         log: &[u8],
         machine: Machine,
+        ways: &mut Waymarks,
         steps: &mut Steps<L>,
     ) -> Result<Part, NoMemory>
-        requires { first_place ≤ length log.now }
-        ensures { IfOk result (λ part. IsPart log.now machine part) }
+        requires header { first_place ≤ length log.now }
+        requires none { ways.old.marks.items ≡ [] }
+        ensures is { IfOk result (λ part. IsPart log.now machine part) }
+        ensures ways { IfOk result (λ part. AllLie log.now machine part.end ways.new.marks.items) }
     {
         let mut last = machine.count();
         let mut runner = Runner::new(machine);
         let mut end = FIRST_PLACE;
         'events: while runner.ended().is_none() {
+            ways.pass(runner.machine(), end)?;
             match runner.follow_one(alloc, log, end, steps) {
                 Ok(next) => end = next,
                 Err(FeedError::NoMemory) => return Err(AllocError),

@@ -1,6 +1,7 @@
 //! The snapshots of a script, at all multiples of its stride.
 
 ghost use Rattle.std.specs.Prelude.{◌≡◌, ◌≤◌, ◌*◌, ◌/◌, IfOk, OnOk};
+ghost use Rattle.std.specs.List.{AllByRecursion};
 ghost use Rattle.reverse_seek.specs.Mark.{Stands, StandsAt};
 ghost use Rattle.reverse_seek.specs.Stride.{stride_of as stride_to};
 ghost use Rattle.reverse_seek.specs.Snapshots.{Keeps, Adds};
@@ -8,6 +9,7 @@ ghost use Rattle.reverse_seek.specs.Snapshots.{Keeps, Adds};
 use crate::mark::Mark;
 use crate::script::Script;
 use crate::stride::stride_of;
+use crate::waymarks::Waymarks;
 use board::Steps;
 use outside::NoMemory;
 use slab::Slab;
@@ -25,15 +27,17 @@ pub struct Snapshots {
 
 impl Snapshots {
     /// Snapshots at all multiples of the stride up to the last count, on the way from the start to
-    /// the last of them.
+    /// the last of them, over the waymarks.
     pub fn of<L: Ledger>(
         alloc: Global,
         script: &Script,
         start: Mark,
+        ways: &Waymarks,
         steps: &mut Steps<L>,
     ) -> Result<Snapshots, NoMemory>
         requires stands { Stands script.now start }
         requires start { start.machine.devices.time.count ≡ 0 }
+        requires ways { AllByRecursion (Stands script.now) ways.now.marks.items }
         ensures { IfOk result (λ kept.
             Keeps script.now kept.counts.items kept.keys.items kept.marks) }
     {
@@ -47,6 +51,7 @@ impl Snapshots {
         };
         let mut number = 0;
         while number < total {
+            ways.lead(script, &mut mark, number * stride)?;
             kept.go_and_keep(alloc, script, &mut mark, number, stride, steps)?;
             number += 1;
         }

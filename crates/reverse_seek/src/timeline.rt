@@ -15,6 +15,7 @@ use crate::mark::Mark;
 use crate::script::Script;
 use crate::snapshots::Snapshots;
 use crate::stride::stride_of;
+use crate::waymarks::Waymarks;
 use board::{Config, Machine, Steps};
 use elf_load::Loaded;
 use event_log::Header;
@@ -69,8 +70,9 @@ impl Timeline {
         ensures start { IfOk result (λ opened. opened.0.at ≡ 0) }
     {
         let machine = Machine::reset(alloc, &Config::of(header), firmware)?;
-        let (script, refusal) = Script::read(alloc, machine, log, steps)?;
-        let kept = Snapshots::of(alloc, &script, script.start()?, steps)?;
+        let mut ways = Waymarks::of(alloc, log.as_slice());
+        let (script, refusal) = Script::read(alloc, machine, log, &mut ways, steps)?;
+        let kept = Snapshots::of(alloc, &script, script.start()?, &ways, steps)?;
         let mark = kept.number(&script, 0).share()?;
         Ok((Timeline { script, kept, mark }, refusal))
     }

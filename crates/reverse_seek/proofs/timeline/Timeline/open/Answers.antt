@@ -11,4 +11,4 @@ pub returns-clause-script : goal.returns-clause-script
 returns-clause-script g c =
     subst (λ z. Reads z c.args.log.items c.in_ok-script.script c.in_ok-script.refusal)
     (started c.in_ok-machine.machine c.of.result _ c.args.firmware.now c.in_ok-machine.ensures c.of.ensures)
-    c.in_ok-script.ensures
+    c.in_ok-script.ensures.reads
