@@ -9,14 +9,17 @@ use Rattle.event_log.specs.Fronts.{FrontOfTexts}
 use Rattle.event_log.proofs.Exact.{meets_read}
 use Rattle.event_log.proofs.Spelled.{text_spells}
 
-abbrev read_ok : Event × List ℕ → Result (Event × List ℕ) (Fault Rule)
+abbrev pub read_ok : Event × List ℕ → Result (Event × List ℕ) (Fault Rule)
 read_ok found = Ok found
 
-ok_is : (a b : Event × List ℕ) → read_ok a ≡ read_ok b → a ≡ b
+pub ok_is : (a b : Event × List ℕ) → read_ok a ≡ read_ok b → a ≡ b
 ok_is a b e = cc
 
 front_read : (e : Event) (after : List ℕ) → IsEvent e → read event (text e ++ after) ≡ Ok (e, after)
 front_read e after is = meets_read event (text e ++ after) (Ok (e, after)) (text_spells e after is)
+
+pub spelled : (bytes after : List ℕ) (e : Event) → IsEvent e → bytes ≡ text e ++ after → read event bytes ≡ Ok (e, after)
+spelled bytes after e is parts = rw parts (front_read e after is)
 
 -- the event at the front is one
 pub same_front : (e d : Event) (after rest : List ℕ) → IsEvent e → IsEvent d → text e ++ after ≡ text d ++ rest → (e ≡ d) × (after ≡ rest)

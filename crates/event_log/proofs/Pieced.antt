@@ -13,7 +13,7 @@ use Rattle.event_log.specs.Spelling.{event, text, IsEvent}
 use Rattle.event_log.specs.Reading.{Reader, ahead, to_limit, Nexts, IsAnswer}
 use Rattle.event_log.proofs.Exact.{meets_read}
 use Rattle.event_log.proofs.Widths.{bad_longer}
-use Rattle.event_log.proofs.Spelled.{text_spells}
+use Rattle.event_log.proofs.FrontLemmas.{ok_is, spelled}
 
 -- what reading the bytes gives, and the place, tell the answer
 abbrev Told : Result (Event × List ℕ) (Fault Rule) → ℕ → Result (Event × ℕ) StreamError → Type 0
@@ -28,9 +28,6 @@ Told found place (Err stream.NoMemory) = ⊥
 rest_after : (bytes front : List ℕ) (new : Option (List ℕ)) → Consumes (Some bytes) new front → (after : List ℕ) × (bytes ≡ front ++ after)
 rest_after bytes front None c = absurd c
 rest_after bytes front (Some after) c = (after, c)
-
-spelled : (bytes after : List ℕ) (e : Event) → IsEvent e → bytes ≡ text e ++ after → read event bytes ≡ Ok (e, after)
-spelled bytes after e is parts = meets_read event bytes (Ok (e, after)) (rw parts (text_spells e after is))
 
 -- a fault before the limit is one of all bytes
 bad_whole : (place : ℕ) (bytes : List ℕ) (rule : Rule) → Stops event (to_limit place bytes) (Bad rule) → Stops event bytes (Bad rule)
@@ -57,12 +54,6 @@ told old new bytes (Err (stream.Parse parse.NoMemory)) known never some = never
 told old new bytes (Err stream.Failed) known n some = some
 told old new bytes (Err stream.TooLong) known n some = some
 told old new bytes (Err stream.NoMemory) known n some = some
-
-abbrev read_ok : Event × List ℕ → Result (Event × List ℕ) (Fault Rule)
-read_ok found = Ok found
-
-ok_is : (a b : Event × List ℕ) → read_ok a ≡ read_ok b → a ≡ b
-ok_is a b e = cc
 
 same : (found : Result (Event × List ℕ) (Fault Rule)) (place : ℕ) (one other : Result (Event × ℕ) StreamError) → Told found place one → Told found place other → one ≡ other
 same found place (Ok a) (Ok b) (at, (x, p)) (at', (y, q)) =

@@ -13,7 +13,7 @@ use Rattle.event_log.specs.Spelling.{event, text, IsEvent}
 use Rattle.event_log.specs.Log.{Stands, Answers, Unless, FindsBytes, AsksMemory}
 use Rattle.event_log.proofs.Exact.{read_meets, meets_read}
 use Rattle.event_log.proofs.Numbers.{IsBytes}
-use Rattle.event_log.proofs.Spelled.{text_spells}
+use Rattle.event_log.proofs.FrontLemmas.{ok_is, spelled}
 use Rattle.event_log.proofs.Spells.{spells_text}
 
 -- ---- from what was read
@@ -49,22 +49,13 @@ ReadIs found at (Err (parse.Bad offset rule)) = (offset ≡ at) × (found ≡ Er
 ReadIs found at (Err (parse.Cut offset)) = (offset ≡ at) × (found ≡ Err Cut)
 ReadIs found at (Err parse.NoMemory) = Unit {0}
 
-spelled : (bytes : List ℕ) (e : Event) (after : List ℕ) → IsEvent e → bytes ≡ text e ++ after → read event bytes ≡ Ok (e, after)
-spelled bytes e after is parts = meets_read event bytes (Ok (e, after)) (rw parts (text_spells e after is))
-
 answer_read : (bytes : List ℕ) (at : ℕ) (r : Result (Event × ℕ) ParseError) → Answers bytes at r → ReadIs (read event (drop at bytes)) at r
 answer_read bytes at (Ok answer) (is, parts, next) =
     let after : List ℕ = drop answer.1 bytes in
-    ((after, spelled (drop at bytes) answer.0 after is parts), next)
+    ((after, spelled (drop at bytes) after answer.0 is parts), next)
 answer_read bytes at (Err (parse.Bad offset rule)) (place, stops) = (place, meets_read event (drop at bytes) (Err (Bad rule)) stops)
 answer_read bytes at (Err (parse.Cut offset)) (place, stops) = (place, meets_read event (drop at bytes) (Err Cut) stops)
 answer_read bytes at (Err parse.NoMemory) a = tt
-
-abbrev read_ok : Event × List ℕ → Result (Event × List ℕ) (Fault Rule)
-read_ok found = Ok found
-
-ok_is : (a b : Event × List ℕ) → read_ok a ≡ read_ok b → a ≡ b
-ok_is a b e = cc
 
 same_answer : (found : Result (Event × List ℕ) (Fault Rule)) (at : ℕ) (one other : Result (Event × ℕ) ParseError) → (one ≡ Err parse.NoMemory → ⊥) → ReadIs found at one → ReadIs found at other → Unless one other
 same_answer found at (Ok a) (Ok b) some ((x, p), n) ((y, q), m) =
