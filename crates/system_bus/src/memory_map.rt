@@ -1,7 +1,7 @@
 //! The memory map: where the devices lie.
 
-ghost use Rattle.std.specs.Prelude.{◌≡◌, IfSome};
-ghost use Rattle.system_bus.specs.MemoryMap.{register_at as register_of, as_wide as register_as_wide, width as width_of};
+ghost use Rattle.std.specs.Prelude.{◌≡◌, true, IfSome};
+ghost use Rattle.system_bus.specs.MemoryMap.{register_at as register_of, accessed as accessed_of, allows as allows_of};
 
 /// A device's range of addresses.
 #[derive(Clone, Copy, Debug, PartialEq, Eq)]
@@ -13,38 +13,41 @@ pub enum Region {
     Uart,
 }
 
-/// A place in a region.
+/// What an access reaches in a region.
 #[derive(Clone, Copy, Debug, PartialEq, Eq)]
 pub struct Register {
     pub region: Region,
     /// Bytes from the region's start.
     pub offset: u32,
+    /// The bytes of the access.
+    pub size: u32,
 }
 
 impl Region {
-    /// The bytes of an access that it allows.
-    fn width(&self) -> u32
-        ensures { result ≡ width_of self.now }
+    /// Whether it allows an access of so many bytes at this offset: the UART's registers are bytes,
+    /// and those of each other device are words, all over its region.
+    fn allows(self, offset: u32, size: u32) -> bool
+        ensures { result ≡ allows_of self offset size }
     {
         match self {
-            Region::Uart => 1,
-            _ => 4,
+            Region::Finisher | Region::Rtc | Region::Clint | Region::Plic => size == 4,
+            Region::Uart => size == 1,
         }
     }
 
-    /// The register at this offset, for an access of the width that the region allows.
-    fn as_wide(self, offset: u32, size: u32) -> Option<Register>
-        ensures register { result ≡ register_as_wide self offset size }
-        ensures width { IfSome result (λ r. size ≡ width_of r.region) }
+    /// What an access of so many bytes at this offset reaches, where the region allows it.
+    fn accessed(self, offset: u32, size: u32) -> Option<Register>
+        ensures register { result ≡ accessed_of self offset size }
+        ensures size { IfSome result (λ r. (r.size ≡ size) × (allows_of r.region r.offset r.size ≡ true)) }
     {
-        if size == self.width() {
-            Some(Register {
-                region: self,
-                offset,
-            })
-        } else {
-            None
+        if !self.allows(offset, size) {
+            return None;
         }
+        Some(Register {
+            region: self,
+            offset,
+            size,
+        })
     }
 }
 
@@ -52,14 +55,14 @@ impl Region {
 #[tactic(auto, unfolding(crate::specs::MemoryMap::register_at))]
 pub fn register_at(at: u32, size: u32) -> Option<Register>
     ensures register { result ≡ register_of at size }
-    ensures width { IfSome result (λ r. size ≡ width_of r.region) }
+    ensures size { IfSome result (λ r. (r.size ≡ size) × (allows_of r.region r.offset r.size ≡ true)) }
 {
     match at {
-        0x0010_0000..=0x0010_0fff => Region::Finisher.as_wide(at - 0x0010_0000, size),
-        0x0010_1000..=0x0010_1fff => Region::Rtc.as_wide(at - 0x0010_1000, size),
-        0x0200_0000..=0x0200_ffff => Region::Clint.as_wide(at - 0x0200_0000, size),
-        0x0c00_0000..=0x0c3f_ffff => Region::Plic.as_wide(at - 0x0c00_0000, size),
-        0x1000_0000..=0x1000_00ff => Region::Uart.as_wide(at - 0x1000_0000, size),
+        0x0010_0000..=0x0010_0fff => Region::Finisher.accessed(at - 0x0010_0000, size),
+        0x0010_1000..=0x0010_1fff => Region::Rtc.accessed(at - 0x0010_1000, size),
+        0x0200_0000..=0x0200_ffff => Region::Clint.accessed(at - 0x0200_0000, size),
+        0x0c00_0000..=0x0c3f_ffff => Region::Plic.accessed(at - 0x0c00_0000, size),
+        0x1000_0000..=0x1000_00ff => Region::Uart.accessed(at - 0x1000_0000, size),
         _ => None,
     }
 }
