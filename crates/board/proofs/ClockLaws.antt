@@ -44,7 +44,7 @@ before-same g h e = let c = ap nanoseconds e in omega arith
 stays : (g : State) → NoLater g g
 stays g = omega arith
 
-if-state : (P : State → Type 0) (b : Bool) (x y : State) → P x → P y → P (if b then x else y)
+pub if-state : (P : State → Type 0) (b : Bool) (x y : State) → P x → P y → P (if b then x else y)
 if-state P true x y p q = p
 if-state P false x y p q = q
 
@@ -102,7 +102,7 @@ after-before (suc n) g =
 abbrev SameTime : State → State → Type 0
 SameTime g h = h.devices.time ≡ g.devices.time
 
-if-some : (P : State → Type 0) (b : Bool) (h : State) → (b ≡ true → P h) → IfSome (if b then Some h else None) P
+pub if-some : (P : State → Type 0) (b : Bool) (h : State) → (b ≡ true → P h) → IfSome (if b then Some h else None) P
 if-some P true h p = p refl
 if-some P false h p = tt
 

@@ -15,3 +15,4 @@ pub mod Plain
 pub mod Sprints
 pub mod Quiet
 pub mod Settled
+pub mod LineLaws

@@ -18,14 +18,14 @@ use Rattle.board.proofs.Counting.{attempt-fed, may_run}
 use Rattle.system_bus.proofs.Levels.{level_twice}
 use Rattle.board.proofs.Unrefused.{is_refusal}
 
-levels-twice : (d : Devices) → levels (levels d) ≡ levels d
+pub levels_again : (d : Devices) → levels (levels d) ≡ levels d
 unfolding levels
-levels-twice d = ap (λ z. record d { plic = z }) (level_twice d.plic uart_source (level d.uart))
+levels_again d = ap (λ z. record d { plic = z }) (level_twice d.plic uart_source (level d.uart))
 
 settle-settled : (g : State) (done : Done) (h : Hart) (d : Devices) → is_need_clock done ≡ false → is_refusal done ≡ false
     → levels (settle g done h d).devices ≡ (settle g done h d).devices
-settle-settled g (Retired idle) h d c m = levels-twice (record d { time = later d.time })
-settle-settled g (Trap cause value) h d c m = levels-twice (record d { time = later d.time })
+settle-settled g (Retired idle) h d c m = levels_again (record d { time = later d.time })
+settle-settled g (Trap cause value) h d c m = levels_again (record d { time = later d.time })
 settle-settled g NeedClock h d c m = absurd cc
 settle-settled g NoMemory h d c m = absurd cc
 

@@ -1,5 +1,6 @@
 -- What laws of whole runs say.
 use Rattle.std.specs.Prelude.{ℕ, ◌≡◌, ◌≤◌, ◌+◌, Bool, true, false, Some}
+use Rattle.system_bus.specs.Lines.{levels}
 use Rattle.system_bus.specs.Time.{nanoseconds}
 use Rattle.board.specs.State.{State}
 use Rattle.board.specs.Close.{wakes, deadline}
@@ -29,3 +30,7 @@ pub record ResumesAt (g : State) (at : ℕ) : Type 0 where
   pub clock : clock_of g ≡ at
   pub goes_on : g.control.idle ≡ false
   pub woken : wakes g.hart g.devices ≡ true
+
+-- the level of each device's source at the PLIC is its line: setting the levels again changes nothing
+abbrev pub ShowsLines : State → Type 0
+ShowsLines g = levels g.devices ≡ g.devices

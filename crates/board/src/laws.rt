@@ -8,7 +8,10 @@ ghost use Rattle.board.specs.Close.{close};
 ghost use Rattle.board.specs.Turn.{turn};
 ghost use Rattle.board.specs.Runs.{run, turns, state_at};
 ghost use Rattle.board.specs.Taken.{with_out, map_out};
-ghost use Rattle.board.specs.Laws.{NoLater, IsLaterBy, IdlesUntil, ResumesAt};
+ghost use Rattle.elf_load.specs.declared.pieces.Loaded.{Loaded as AnImage};
+ghost use Rattle.board.specs.declared.config.Config.{Config as AConfig};
+ghost use Rattle.board.specs.Reset.{reset};
+ghost use Rattle.board.specs.Laws.{NoLater, IsLaterBy, IdlesUntil, ResumesAt, ShowsLines};
 
 /// Console bytes that were taken before play no part in a run.
 pub fn taken()
@@ -35,4 +38,13 @@ pub fn count_is_turns()
 /// A hart that is idle until a deadline goes on exactly at it.
 pub fn resumes_at_deadline()
     ensures { (g : State) (at : ℕ) → IdlesUntil g at → ResumesAt (close g) at }
+{}
+
+/// The levels at the PLIC are the devices' lines, at the start and in each state of a run.
+pub fn levels_are_the_lines()
+    ensures start { (config : AConfig) (firmware : AnImage) → ShowsLines (reset config firmware) }
+    ensures turn { (g : State) → ShowsLines g → ShowsLines (turn g) }
+    ensures run { (es : List AnEvent) (g : State) → ShowsLines g → IfSome (run g es) ShowsLines }
+    ensures states { (es : List AnEvent) (g : State) (n : ℕ)
+        → ShowsLines g → ShowsLines (state_at g es n) }
 {}
