@@ -31,7 +31,7 @@ use Rattle.board.specs.Turn.{run_word, fetched, attempt, settle, settled, turn_c
 use Rattle.board.specs.Due.{interrupt_of, needs_clock, due_by, due_closed, due}
 use Rattle.board.specs.Accept.{takes, takes_interrupt, takes_end, in_window, with_levels, taken, accept, takes_input, ended}
 use Rattle.board.specs.Runs.{is_run, after, ran, step, then_run, run, turns_of, or_here, state_at}
-use Rattle.board.specs.Taken.{line_with, devices_with, with_out, map_out}
+use Rattle.board.specs.Taken.{Taken, line_with, devices_with, with_taken, map_taken}
 
 choice : {A B : Type 0} (f : A → B) (b : Bool) (x y : A) → f (cond b x y) ≡ cond b (f x) (f y)
 choice f true x y = refl
@@ -42,7 +42,7 @@ both : {A B : Type 0} (f : A → B) (b : Bool) (x y : A) (x' y' : B) → x' ≡ 
 both f true x y x' y' p q = p
 both f false x y x' y' p q = q
 
-module _ (front : List ℕ) where
+module _ (front : Taken) where
   -- ---- the devices
 
   -- a read shows the same
@@ -141,17 +141,17 @@ module _ (front : List ℕ) where
   unfolding attempt
   attempt-with h d = fetched-with h d (ram_load d.ram h.pc 4)
 
-  settle-with : (g : State) (done : Done) (h : Hart) (d : Devices) → settle (with_out front g) done h (devices_with front d) ≡ with_out front (settle g done h d)
+  settle-with : (g : State) (done : Done) (h : Hart) (d : Devices) → settle (with_taken front g) done h (devices_with front d) ≡ with_taken front (settle g done h d)
   settle-with g (Retired idle) h d = ap (λ z. record (settle g (Retired idle) h d) { devices = z }) (levels-with (record d { time = later d.time }))
   settle-with g (Trap cause value) h d = ap (λ z. record (settle g (Trap cause value) h d) { devices = z }) (levels-with (record d { time = later d.time }))
   settle-with g NeedClock h d = refl
   settle-with g NoMemory h d = refl
 
-  turn-closed-with : (g : State) → turn_closed (with_out front g) ≡ with_out front (turn_closed g)
+  turn-closed-with : (g : State) → turn_closed (with_taken front g) ≡ with_taken front (turn_closed g)
   unfolding turn_closed
   turn-closed-with g =
       let o = attempt g.hart g.devices in
-      ap (λ z. settled (with_out front g) z) (attempt-with g.hart g.devices) ∙ settle-with g o.done o.hart o.bus
+      ap (λ z. settled (with_taken front g) z) (attempt-with g.hart g.devices) ∙ settle-with g o.done o.hart o.bus
 
   -- ---- closing
 
@@ -159,131 +159,131 @@ module _ (front : List ℕ) where
   unfolding inputs
   wakes-with h d = refl
 
-  rests-with : (used : Bool) (g : State) (at : Option ℕ) → rests used (with_out front g) at ≡ with_out front (rests used g at)
+  rests-with : (used : Bool) (g : State) (at : Option ℕ) → rests used (with_taken front g) at ≡ with_taken front (rests used g at)
   rests-with used g (Some at) = refl
   rests-with true g None = refl
   rests-with false g None = refl
 
-  window-with : (w : Window) (g : State) → close_window w (with_out front g) ≡ with_out front (close_window w g)
+  window-with : (w : Window) (g : State) → close_window w (with_taken front g) ≡ with_taken front (close_window w g)
   window-with window.Shut g = refl
   window-with (window.Slice used) g = refl
   window-with (window.Idle used) g =
-      ap (λ z. cond z (awake (with_out front g)) (rests used (with_out front g) (deadline g.hart g.devices))) (wakes-with g.hart g.devices)
-      ∙ both (with_out front) (wakes g.hart g.devices) _ _ _ _ refl (rests-with used g (deadline g.hart g.devices))
+      ap (λ z. cond z (awake (with_taken front g)) (rests used (with_taken front g) (deadline g.hart g.devices))) (wakes-with g.hart g.devices)
+      ∙ both (with_taken front) (wakes g.hart g.devices) _ _ _ _ refl (rests-with used g (deadline g.hart g.devices))
 
-  pub close-with : (g : State) → close (with_out front g) ≡ with_out front (close g)
+  pub close-with : (g : State) → close (with_taken front g) ≡ with_taken front (close g)
   unfolding close
   close-with g = window-with g.control.window g
 
-  pub turn-with : (g : State) → turn (with_out front g) ≡ with_out front (turn g)
+  pub turn-with : (g : State) → turn (with_taken front g) ≡ with_taken front (turn g)
   unfolding turn
   turn-with g = ap turn_closed (close-with g) ∙ turn-closed-with (close g)
 
   -- ---- what is due
 
-  interrupt-with : (g : State) → interrupt_of (with_out front g) ≡ interrupt_of g
+  interrupt-with : (g : State) → interrupt_of (with_taken front g) ≡ interrupt_of g
   unfolding inputs
   interrupt-with g = refl
 
-  clock-with : (g : State) → needs_clock (with_out front g) ≡ needs_clock g
+  clock-with : (g : State) → needs_clock (with_taken front g) ≡ needs_clock g
   unfolding needs_clock
   clock-with g = ap (λ o. is_need_clock o.done) (attempt-with g.hart g.devices)
 
-  due-closed-with : (g : State) → due_closed (with_out front g) ≡ due_closed g
+  due-closed-with : (g : State) → due_closed (with_taken front g) ≡ due_closed g
   unfolding due_closed
   due-closed-with g =
-      ap (λ z. due_by g.control g.devices.time.count g.devices.finisher false (is_some z) (needs_clock (with_out front g))) (interrupt-with g)
+      ap (λ z. due_by g.control g.devices.time.count g.devices.finisher false (is_some z) (needs_clock (with_taken front g))) (interrupt-with g)
       ∙ ap (λ z. due_by g.control g.devices.time.count g.devices.finisher false (is_some (interrupt_of g)) z) (clock-with g)
 
-  pub due-with : (g : State) → due (with_out front g) ≡ due g
+  pub due-with : (g : State) → due (with_taken front g) ≡ due g
   unfolding due
   due-with g = ap due_closed (close-with g) ∙ due-closed-with (close g)
 
   -- ---- events
 
-  interrupts-with : (g : State) (o : Option ℕ) → takes_interrupt (with_out front g) o ≡ map_out front (takes_interrupt g o)
+  interrupts-with : (g : State) (o : Option ℕ) → takes_interrupt (with_taken front g) o ≡ map_taken front (takes_interrupt g o)
   interrupts-with g None = refl
   interrupts-with g (Some which) = refl
 
-  takes-with : (d : Due) (e : Event) (g : State) → takes d e (with_out front g) ≡ map_out front (takes d e g)
+  takes-with : (d : Due) (e : Event) (g : State) → takes d e (with_taken front g) ≡ map_taken front (takes d e g)
   takes-with due_is.Exception event.Exception g = refl
-  takes-with due_is.Interrupt event.Interrupt g = ap (takes_interrupt (with_out front g)) (interrupt-with g) ∙ interrupts-with g (interrupt_of g)
+  takes-with due_is.Interrupt event.Interrupt g = ap (takes_interrupt (with_taken front g)) (interrupt-with g) ∙ interrupts-with g (interrupt_of g)
   takes-with due_is.Idle (event.Checkpoint true) g = refl
   takes-with due_is.Slice (event.Checkpoint false) g = refl
   takes-with due_is.Clock (event.Clock value) g = refl
-  takes-with (due_is.End r c) (event.End reason code) g = both (map_out front) (r == reason && c == code) _ _ _ _ refl refl
+  takes-with (due_is.End r c) (event.End reason code) g = both (map_taken front) (r == reason && c == code) _ _ _ _ refl refl
   takes-with d e g = refl
 
-  now-takes-with : (e : Event) (g : State) → takes (due (with_out front g)) e (close (with_out front g)) ≡ map_out front (takes (due g) e (close g))
+  now-takes-with : (e : Event) (g : State) → takes (due (with_taken front g)) e (close (with_taken front g)) ≡ map_taken front (takes (due g) e (close g))
   now-takes-with e g =
-      ap (λ z. takes z e (close (with_out front g))) (due-with g) ∙ ap (takes (due g) e) (close-with g) ∙ takes-with (due g) e (close g)
+      ap (λ z. takes z e (close (with_taken front g))) (due-with g) ∙ ap (takes (due g) e) (close-with g) ∙ takes-with (due g) e (close g)
 
-  window-event-with : (g h : State) → in_window (with_out front g) (with_out front h) ≡ map_out front (in_window g h)
-  window-event-with g h = both (map_out front) (takes_input g.control) _ _ _ _ refl refl
+  window-event-with : (g h : State) → in_window (with_taken front g) (with_taken front h) ≡ map_taken front (in_window g h)
+  window-event-with g h = both (map_taken front) (takes_input g.control) _ _ _ _ refl refl
 
-  end-with : (g : State) (reason code : ℕ) → takes_end (with_out front g) reason code ≡ map_out front (takes_end g reason code)
+  end-with : (g : State) (reason code : ℕ) → takes_end (with_taken front g) reason code ≡ map_taken front (takes_end g reason code)
   end-with g reason code =
-      both (map_out front) (reason == 3) _ _ _ _ (window-event-with g (ended g reason code)) (now-takes-with (event.End reason code) g)
+      both (map_taken front) (reason == 3) _ _ _ _ (window-event-with g (ended g reason code)) (now-takes-with (event.End reason code) g)
 
-  taken-with : (e : Event) (g : State) → taken (with_out front g) e ≡ map_out front (taken g e)
+  taken-with : (e : Event) (g : State) → taken (with_taken front g) e ≡ map_taken front (taken g e)
   unfolding taken
-  taken-with (event.CharRead bytes) g = both (map_out front) (takes_input g.control) _ _ _ _ refl refl
-  taken-with (event.Net packet) g = both (map_out front) (takes_input g.control) _ _ _ _ refl refl
+  taken-with (event.CharRead bytes) g = both (map_taken front) (takes_input g.control) _ _ _ _ refl refl
+  taken-with (event.Net packet) g = both (map_taken front) (takes_input g.control) _ _ _ _ refl refl
   taken-with (event.Block id ok) g = refl
   taken-with (event.End reason code) g = end-with g reason code
   taken-with e g = now-takes-with e g
 
-  levels-map-with : (o : Option State) → with_levels (map_out front o) ≡ map_out front (with_levels o)
+  levels-map-with : (o : Option State) → with_levels (map_taken front o) ≡ map_taken front (with_levels o)
   levels-map-with None = refl
   levels-map-with (Some g) = ap (λ z. Some (record g { devices = z })) (levels-with g.devices)
 
-  pub accept-with : (e : Event) (g : State) → accept (with_out front g) e ≡ map_out front (accept g e)
+  pub accept-with : (e : Event) (g : State) → accept (with_taken front g) e ≡ map_taken front (accept g e)
   unfolding accept
   accept-with e g = ap with_levels (taken-with e g) ∙ levels-map-with (taken g e)
 
   -- ---- runs
 
-  pub after-with : (n : ℕ) (g : State) → after n (with_out front g) ≡ with_out front (after n g)
+  pub after-with : (n : ℕ) (g : State) → after n (with_taken front g) ≡ with_taken front (after n g)
   unfolding after
   after-with zero g = refl
   after-with (suc n) g =
-      ap (λ z. cond (is_run z) (after n (turn (with_out front g))) (with_out front g)) (due-with g)
-      ∙ both (with_out front) (is_run (due g)) _ _ _ _ (ap (after n) (turn-with g) ∙ after-with n (turn g)) refl
+      ap (λ z. cond (is_run z) (after n (turn (with_taken front g))) (with_taken front g)) (due-with g)
+      ∙ both (with_taken front) (is_run (due g)) _ _ _ _ (ap (after n) (turn-with g) ∙ after-with n (turn g)) refl
 
-  pub ran-with : (n : ℕ) (g : State) → ran n (with_out front g) ≡ ran n g
+  pub ran-with : (n : ℕ) (g : State) → ran n (with_taken front g) ≡ ran n g
   unfolding ran
   ran-with zero g = refl
   ran-with (suc n) g =
-      ap (λ z. cond (is_run z) (suc (ran n (turn (with_out front g)))) zero) (due-with g)
+      ap (λ z. cond (is_run z) (suc (ran n (turn (with_taken front g)))) zero) (due-with g)
       ∙ ap (λ z. cond (is_run (due g)) (suc z) zero) (ap (ran n) (turn-with g) ∙ ran-with n (turn g))
 
-  pub step-with : (e : Event) (g : State) → step (with_out front g) e ≡ map_out front (step g e)
+  pub step-with : (e : Event) (g : State) → step (with_taken front g) e ≡ map_taken front (step g e)
   unfolding step
   step-with (event.Instruction n) g =
-      ap (λ z. cond (z == n && not (is_run (due (after n (with_out front g))))) (Some (after n (with_out front g))) None) (ran-with n g)
+      ap (λ z. cond (z == n && not (is_run (due (after n (with_taken front g))))) (Some (after n (with_taken front g))) None) (ran-with n g)
       ∙ ap (λ z. cond (ran n g == n && not (is_run (due z))) (Some z) None) (after-with n g)
-      ∙ ap (λ z. cond (ran n g == n && not (is_run z)) (Some (with_out front (after n g))) None) (due-with (after n g))
-      ∙ both (map_out front) (ran n g == n && not (is_run (due (after n g)))) _ _ _ _ refl refl
+      ∙ ap (λ z. cond (ran n g == n && not (is_run z)) (Some (with_taken front (after n g))) None) (due-with (after n g))
+      ∙ both (map_taken front) (ran n g == n && not (is_run (due (after n g)))) _ _ _ _ refl refl
   step-with e g = accept-with e g
 
-  then-with : (next : State → Option State) → ((g : State) → next (with_out front g) ≡ map_out front (next g)) → (o : Option State) → then_run (map_out front o) next ≡ map_out front (then_run o next)
+  then-with : (next : State → Option State) → ((g : State) → next (with_taken front g) ≡ map_taken front (next g)) → (o : Option State) → then_run (map_taken front o) next ≡ map_taken front (then_run o next)
   then-with next h None = refl
   then-with next h (Some g) = h g
 
-  pub run-with : (es : List Event) (g : State) → run (with_out front g) es ≡ map_out front (run g es)
+  pub run-with : (es : List Event) (g : State) → run (with_taken front g) es ≡ map_taken front (run g es)
   unfolding run
   run-with [] g = refl
   run-with (e ∷ es) g = ap (λ z. then_run z (λ h. run h es)) (step-with e g) ∙ then-with (λ h. run h es) (λ h. run-with es h) (step g e)
 
-  here-with : (next : State → State) → ((g : State) → next (with_out front g) ≡ with_out front (next g)) → (g : State) (o : Option State) → or_here (with_out front g) (map_out front o) next ≡ with_out front (or_here g o next)
+  here-with : (next : State → State) → ((g : State) → next (with_taken front g) ≡ with_taken front (next g)) → (g : State) (o : Option State) → or_here (with_taken front g) (map_taken front o) next ≡ with_taken front (or_here g o next)
   here-with next h g None = refl
   here-with next h g (Some k) = h k
 
-  pub state-at-with : (es : List Event) (g : State) (n : ℕ) → state_at (with_out front g) es n ≡ with_out front (state_at g es n)
+  pub state-at-with : (es : List Event) (g : State) (n : ℕ) → state_at (with_taken front g) es n ≡ with_taken front (state_at g es n)
   unfolding state_at
   state-at-with [] g n = after-with n g
   state-at-with (e ∷ es) g n =
-      both (with_out front) (nat_le (turns_of e) n) _ _ _ _
-      (ap (λ z. or_here (with_out front g) z (λ h. state_at h es (n - turns_of e))) (step-with e g)
+      both (with_taken front) (nat_le (turns_of e) n) _ _ _ _
+      (ap (λ z. or_here (with_taken front g) z (λ h. state_at h es (n - turns_of e))) (step-with e g)
       ∙ here-with (λ h. state_at h es (n - turns_of e)) (λ h. state-at-with es h (n - turns_of e)) g (step g e))
       (after-with n g)

@@ -1,22 +1,34 @@
--- Console bytes that were taken before.
+-- What was taken of the machine before.
 use Rattle.std.specs.Prelude.{List, ℕ, ◌++◌, [], Option, Some, None}
 use Rattle.uart16550.specs.Line.{Line}
 use Rattle.board.specs.State.{State}
 use Rattle.system_bus.specs.declared.devices.Devices.{Devices}
 
-abbrev pub line_with : List ℕ → Line → Line
-line_with front l = record l { out = front ++ l.out }
+-- what the machine gave away: console bytes
+pub record Taken : Type 0 where
+  pub out : List ℕ
 
-abbrev pub devices_with : List ℕ → Devices → Devices
-devices_with front d = record d { uart = line_with front d.uart }
+-- console bytes alone
+abbrev pub out_alone : List ℕ → Taken
+out_alone bytes = record { out = bytes }
 
--- the state in which these bytes stand before those that weren't taken
-abbrev pub with_out : List ℕ → State → State
-with_out front g = record g { devices = devices_with front g.devices }
+-- one after the other
+abbrev pub joined : Taken → Taken → Taken
+joined a b = record { out = a.out ++ b.out }
 
-abbrev pub map_out : List ℕ → Option State → Option State
-map_out front None = None
-map_out front (Some g) = Some (with_out front g)
+abbrev pub line_with : Taken → Line → Line
+line_with t l = record l { out = t.out ++ l.out }
+
+abbrev pub devices_with : Taken → Devices → Devices
+devices_with t d = record d { uart = line_with t d.uart }
+
+-- the state in which this stands before what wasn't taken
+abbrev pub with_taken : Taken → State → State
+with_taken t g = record g { devices = devices_with t g.devices }
+
+abbrev pub map_taken : Taken → Option State → Option State
+map_taken t None = None
+map_taken t (Some g) = Some (with_taken t g)
 
 -- the console bytes were taken
 abbrev pub without_out : State → State

@@ -7,19 +7,19 @@ ghost use Rattle.board.specs.Due.{due};
 ghost use Rattle.board.specs.Close.{close};
 ghost use Rattle.board.specs.Turn.{turn};
 ghost use Rattle.board.specs.Runs.{run, turns, state_at};
-ghost use Rattle.board.specs.Taken.{with_out, map_out};
+ghost use Rattle.board.specs.Taken.{Taken, with_taken, map_taken};
 ghost use Rattle.elf_load.specs.declared.pieces.Loaded.{Loaded as AnImage};
 ghost use Rattle.board.specs.declared.config.Config.{Config as AConfig};
 ghost use Rattle.board.specs.Reset.{reset};
 ghost use Rattle.board.specs.Laws.{NoLater, IsLaterBy, IdlesUntil, ResumesAt, ShowsLines};
 
-/// Console bytes that were taken before play no part in a run.
+/// What was taken before plays no part in a run.
 pub fn taken()
-    ensures due { (front : List ℕ) (g : State) → due (with_out front g) ≡ due g }
-    ensures run { (front : List ℕ) (es : List AnEvent) (g : State)
-        → run (with_out front g) es ≡ map_out front (run g es) }
-    ensures state { (front : List ℕ) (es : List AnEvent) (g : State) (n : ℕ)
-        → state_at (with_out front g) es n ≡ with_out front (state_at g es n) }
+    ensures due { (before : Taken) (g : State) → due (with_taken before g) ≡ due g }
+    ensures run { (before : Taken) (es : List AnEvent) (g : State)
+        → run (with_taken before g) es ≡ map_taken before (run g es) }
+    ensures state { (before : Taken) (es : List AnEvent) (g : State) (n : ℕ)
+        → state_at (with_taken before g) es n ≡ with_taken before (state_at g es n) }
 {}
 
 /// The virtual clock never falls, in a run and from one of its states to a later one.

@@ -11,7 +11,7 @@ use Rattle.event_log.specs.Fronts.{IsPartOfNext}
 use Rattle.event_log.proofs.FrontLemmas.{front_of_texts}
 use Rattle.board.specs.State.{State}
 use Rattle.board.specs.Runs.{step, run, then_run}
-use Rattle.board.specs.Taken.{with_out, without_out, map_out}
+use Rattle.board.specs.Taken.{Taken, out_alone, with_taken, without_out, map_taken}
 use Rattle.board.proofs.TakenLaws.{run-with}
 use Rattle.rr_engine.specs.Stand.{Devices}
 use Rattle.rr_engine.specs.Input.{Part, Paid, Hears}
@@ -19,7 +19,7 @@ use Rattle.rr_engine.specs.Recording.{clock_values, Gave}
 use Rattle.rr_engine.specs.Runs.{Came, Front, OneIsFront, IsPartOfEvent, IsLogOf}
 use Rattle.rr_engine.proofs.Hearing.{hears-front}
 use Rattle.rr_engine.proofs.Joining.{some_is, then-more, run-none, values-append}
-use Rattle.rr_engine.proofs.Stopping.{with-taken}
+use Rattle.rr_engine.proofs.Stopping.{taken-before}
 
 -- two ways to cut one list
 cut : (h t b r : List ℕ) → h ++ t ≡ b ++ r
@@ -60,19 +60,19 @@ all-rest : (es fs : List Event) → AllByRecursion IsEvent (es ++ fs) → AllByR
 all-rest [] fs all = all
 all-rest (e ∷ es) fs all = all-rest es fs all.1
 
-mapped : (front : List ℕ) (o : Option State) (h : State) → map_out front o ≡ Some h
-    → (k : State) × (o ≡ Some k) × (h ≡ with_out front k)
+mapped : (front : Taken) (o : Option State) (h : State) → map_taken front o ≡ Some h
+    → (k : State) × (o ≡ Some k) × (h ≡ with_taken front k)
 mapped front None h e = absurd cc
-mapped front (Some k) h e = (k, refl, sym (some_is (with_out front k) h e))
+mapped front (Some k) h e = (k, refl, sym (some_is (with_taken front k) h e))
 
 -- console bytes are only added
 grows : (es : List Event) (g h : State) → run g es ≡ Some h
     → (more : List ℕ) × (h.devices.uart.out ≡ g.devices.uart.out ++ more)
 grows es g h r =
     let out = g.devices.uart.out in
-    let behind : map_out out (run (without_out g) es) ≡ Some h =
-    sym (run-with out es (without_out g)) ∙ ap (λ z. run z es) (with-taken g) ∙ r in
-    let m = mapped out (run (without_out g) es) h behind in
+    let behind : map_taken (out_alone out) (run (without_out g) es) ≡ Some h =
+    sym (run-with (out_alone out) es (without_out g)) ∙ ap (λ z. run z es) (taken-before g) ∙ r in
+    let m = mapped (out_alone out) (run (without_out g) es) h behind in
     (m.0.devices.uart.out, ap (λ (z : State). z.devices.uart.out) m.2)
 
 part-of-event : (es : List Event) (part : List ℕ) → AllByRecursion IsEvent es → IsPartOfNext es part

@@ -13,7 +13,7 @@ use Rattle.board.specs.Answers.{RunsTo}
 use Rattle.board.specs.Due.{due}
 use Rattle.board.specs.Laws.{IsLaterBy}
 use Rattle.board.specs.Runs.{is_run, after, ran, step, turns_of, due_at}
-use Rattle.board.specs.Taken.{with_out, without_out}
+use Rattle.board.specs.Taken.{out_alone, with_taken, without_out}
 use Rattle.board.specs.declared.accepting.AcceptError.TheVariants as refusal
 use Rattle.board.specs.declared.due.Due.{Due}
 use Rattle.board.proofs.ClockLaws.{step-counts}
@@ -141,12 +141,12 @@ out-behind : (n : ℕ) (g : State)
     → take (length g.devices.uart.out) (after n g).devices.uart.out ≡ g.devices.uart.out
 out-behind n g =
     let front = g.devices.uart.out in
-    let split : with_out front (without_out g) ≡ g =
+    let split : with_taken (out_alone front) (without_out g) ≡ g =
     ap (λ z. record g { devices = record g.devices { uart = record g.devices.uart { out = z } } })
     (append-nil front) in
     let apart : (after n g).devices.uart.out ≡ front ++ (after n (without_out g)).devices.uart.out =
     ap (λ (z : State). z.devices.uart.out)
-    (ap (λ z. after n z) (sym split) ∙ after-with front n (without_out g)) in
+    (ap (λ z. after n z) (sym split) ∙ after-with (out_alone front) n (without_out g)) in
     ap (λ z. take (length front) z) apart
     ∙ take_at front (after n (without_out g)).devices.uart.out (length front) refl
 

@@ -8,6 +8,7 @@ use Rattle.event_log.specs.declared.event.Event.{Event}
 use Rattle.event_log.specs.declared.event.Event.TheVariants as event
 use Rattle.event_log.specs.Spelling.{text, texts, IsEvent}
 use Rattle.event_log.specs.Writing.{Writer}
+use Rattle.board.specs.Taken.{out_alone}
 use Rattle.board.specs.State.{State}
 use Rattle.board.specs.Runs.{step}
 use Rattle.board.specs.Accept.{accept}
@@ -58,7 +59,7 @@ noted : (p : Stand) (d d' : Remainder) (before : Option (List ℕ)) (m : State) 
     → Recorded Entire d d' (earlier p before) (record p { machine = m; log = w })
 noted p d d' before m w e h s is n = record {
   events = e ∷ [];
-  bytes = [];
+  taken = out_alone [];
   last = m;
   are = (is, tt);
   runs = run-one p.machine m e s;
@@ -83,7 +84,7 @@ unnoted : (p : Stand) (d d' : Remainder) (before : Option (List ℕ)) (m : State
 unnoted p d d' before m w e LogWrite h s is n = (
   record {
     events = e ∷ [];
-    bytes = [];
+    taken = out_alone [];
     last = m;
     are = (is, tt);
     runs = run-one p.machine m e s;
@@ -103,7 +104,7 @@ unnoted p d d' before m w e LogWrite h s is n = (
 unnoted p d d' before m w e NoMemory h s is n = (
   record {
     events = [];
-    bytes = [];
+    taken = out_alone [];
     last = p.machine;
     are = tt;
     runs = run-none p.machine;
@@ -129,7 +130,7 @@ refused : (p : Stand) (d d' : Remainder) (before : Option (List ℕ)) (e : Event
 refused p d d' before e h = (
   record {
     events = [];
-    bytes = [];
+    taken = out_alone [];
     last = p.machine;
     are = tt;
     runs = run-none p.machine;
@@ -188,7 +189,7 @@ pub out-of-memory : (d d' : Remainder) (p : Stand) (m : State)
 out-of-memory d d' p m = (
   record {
     events = [];
-    bytes = [];
+    taken = out_alone [];
     last = p.machine;
     are = tt;
     runs = run-none p.machine;

@@ -11,7 +11,7 @@ use Rattle.event_log.specs.Spelling.{text, texts, IsEvent}
 use Rattle.event_log.specs.Writing.{Writer}
 use Rattle.board.specs.State.{State}
 use Rattle.board.specs.Runs.{step, run}
-use Rattle.board.specs.Taken.{with_out, map_out}
+use Rattle.board.specs.Taken.{Taken, out_alone, joined, with_taken, map_taken}
 use Rattle.board.proofs.TakenLaws.{run-with}
 pub use Rattle.log_order.proofs.Following.{some_state, some_is, then-more}
 use Rattle.rr_engine.specs.declared.parts.Break.{Break}
@@ -41,16 +41,16 @@ run-append (e ∷ es) fs g m r p q =
     let more = then-more (step g e) (λ h. run h es) m p in
     rw more.1 (run-append es fs more.0 m r more.2 q)
 
-pub with-with : (xs ys : List ℕ) (g : State) → with_out xs (with_out ys g) ≡ with_out (xs ++ ys) g
+pub with-with : (xs ys : Taken) (g : State) → with_taken xs (with_taken ys g) ≡ with_taken (joined xs ys) g
 with-with xs ys g =
     ap (λ z. record g { devices = record g.devices { uart = record g.devices.uart { out = z } } })
-    (sym (append_assoc xs ys g.devices.uart.out))
+    (sym (append_assoc xs.out ys.out g.devices.uart.out))
 
--- events that ran where console bytes stand before those that weren't taken yet
-pub run-behind : (xs ys : List ℕ) (es : List Event) (g last : State) → run g es ≡ Some (with_out ys last)
-    → run (with_out xs g) es ≡ Some (with_out (xs ++ ys) last)
+-- events that ran where what was taken stands before what wasn't yet
+pub run-behind : (xs ys : Taken) (es : List Event) (g last : State) → run g es ≡ Some (with_taken ys last)
+    → run (with_taken xs g) es ≡ Some (with_taken (joined xs ys) last)
 run-behind xs ys es g last r =
-    run-with xs es g ∙ ap (map_out xs) r ∙ ap (λ z. some_state z) (with-with xs ys last)
+    run-with xs es g ∙ ap (map_taken xs) r ∙ ap (λ z. some_state z) (with-with xs ys last)
 
 -- ---- lists of events
 
@@ -122,7 +122,7 @@ steady-then Part a b c p q = tt
 pub recorded-none : (d : Remainder) (p : Stand) → p.log.unsent.failed ≡ false → Recorded Entire d d p p
 recorded-none d p works = record {
   events = [];
-  bytes = [];
+  taken = out_alone [];
   last = p.machine;
   are = tt;
   runs = run-none p.machine;
@@ -142,17 +142,17 @@ pub recorded-then : (w : Extent) (d d' d'' : Remainder) (p q r : Stand) → Reco
     → Recorded w d' d'' q r → Recorded w d d'' p r
 recorded-then w d d' d'' p q r a b = record {
   events = a.events ++ b.events;
-  bytes = a.bytes ++ b.bytes;
+  taken = joined a.taken b.taken;
   last = b.last;
   are = all-append a.events b.events a.are b.are;
-  runs = run-append a.events b.events p.machine (with_out a.bytes q.machine) (Some (with_out (a.bytes ++ b.bytes) b.last))
-      (a.runs ∙ ap (λ z. some_state (with_out a.bytes z)) (a.stands refl))
-      (run-behind a.bytes b.bytes b.events q.machine b.last b.runs);
+  runs = run-append a.events b.events p.machine (with_taken a.taken q.machine) (Some (with_taken (joined a.taken b.taken) b.last))
+      (a.runs ∙ ap (λ z. some_state (with_taken a.taken z)) (a.stands refl))
+      (run-behind a.taken b.taken b.events q.machine b.last b.runs);
   stands = b.stands;
   log = subst (Logged w p.log r.log) (sym (texts-append a.events b.events))
       (logged-then w p.log q.log r.log (texts a.events) (texts b.events) a.log b.log);
   log_faults = counted-then w p.log.faults q.log.faults r.log.faults a.log_faults b.log_faults;
-  console = took-then w p.console q.console r.console a.bytes b.bytes a.console b.console;
+  console = took-then w p.console q.console r.console a.taken.out b.taken.out a.console b.console;
   console_faults = counted-then w p.console_faults q.console_faults r.console_faults a.console_faults b.console_faults;
   left = b.left;
   heard = hears-then d p.feed a.events d' q.feed b.events b.left r.feed
@@ -168,12 +168,12 @@ pub logged-after : (shown : Extent) (d d' : Remainder) (p q r : Stand) → Recor
     → IsLogged shown d' q r → IsLogged shown d p r
 logged-after shown d d' p q r a b = record {
   events = a.events ++ b.events;
-  bytes = a.bytes ++ b.bytes;
+  taken = joined a.taken b.taken;
   last = b.last;
   are = all-append a.events b.events a.are b.are;
-  runs = run-append a.events b.events p.machine (with_out a.bytes q.machine) (Some (with_out (a.bytes ++ b.bytes) b.last))
-      (a.runs ∙ ap (λ z. some_state (with_out a.bytes z)) (a.stands refl))
-      (run-behind a.bytes b.bytes b.events q.machine b.last b.runs);
+  runs = run-append a.events b.events p.machine (with_taken a.taken q.machine) (Some (with_taken (joined a.taken b.taken) b.last))
+      (a.runs ∙ ap (λ z. some_state (with_taken a.taken z)) (a.stands refl))
+      (run-behind a.taken b.taken b.events q.machine b.last b.runs);
   stopped = b.stopped;
   log = subst (λ (z : List ℕ). Takes p.log.taken r.log.taken (p.log.unsent.held ++ z))
       (sym (texts-append a.events b.events))
@@ -182,7 +182,7 @@ logged-after shown d d' p q r a b = record {
       (texts b.events) a.log.whole)
       (Takes-trans p.log.taken q.log.taken r.log.taken a.log.written
       (q.log.unsent.held ++ texts b.events) a.log.taken b.log));
-  console = took-then shown p.console q.console r.console a.bytes b.bytes a.console b.console;
+  console = took-then shown p.console q.console r.console a.taken.out b.taken.out a.console b.console;
   all = b.all;
   left = b.left;
   heard = hears-then d p.feed a.events d' q.feed b.events b.left r.feed
@@ -225,7 +225,7 @@ goes-then d d' d'' p q r (Err b) a h =
 pub part-to : (d d' d'' : Remainder) (p q : Stand) → Recorded Part d d' p q → Recorded Part d d'' p q
 part-to d d' d'' p q a = record {
   events = a.events;
-  bytes = a.bytes;
+  taken = a.taken;
   last = a.last;
   are = a.are;
   runs = a.runs;

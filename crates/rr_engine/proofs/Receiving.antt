@@ -80,7 +80,7 @@ module _ (p : Stand) (f : Feed) (xs : List Event) (trouble : Option Trouble)
       → Recorded Part Unreceived d p r
   received-part d r a = record {
     events = a.events;
-    bytes = a.bytes;
+    taken = a.taken;
     last = a.last;
     are = a.are;
     runs = a.runs;
@@ -101,7 +101,7 @@ module _ (p : Stand) (f : Feed) (xs : List Event) (trouble : Option Trouble)
       → Recorded Entire had d (with_feed p f) r → Recorded Entire Unreceived d p r
   received-entire d r unfailed a = record {
     events = a.events;
-    bytes = a.bytes;
+    taken = a.taken;
     last = a.last;
     are = a.are;
     runs = a.runs;
@@ -121,7 +121,7 @@ module _ (p : Stand) (f : Feed) (xs : List Event) (trouble : Option Trouble)
       → IsLogged shown Unreceived p r
   received-logged shown r s = record {
     events = s.events;
-    bytes = s.bytes;
+    taken = s.taken;
     last = s.last;
     are = s.are;
     runs = s.runs;

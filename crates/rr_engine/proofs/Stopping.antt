@@ -13,7 +13,7 @@ use Rattle.board.specs.Runs.{step, run}
 use Rattle.board.specs.Due.{due}
 use Rattle.board.specs.declared.due.Due.TheVariants as due_is
 use Rattle.board.proofs.TakenLaws.{due-with}
-use Rattle.board.specs.Taken.{with_out, without_out}
+use Rattle.board.specs.Taken.{out_alone, joined, with_taken, without_out}
 use Rattle.rr_engine.specs.declared.parts.Break.{Break}
 use Rattle.rr_engine.specs.declared.parts.Break.TheVariants.{ConsoleRead, ConsoleWrite, LogWrite, NoMemory}
 use Rattle.rr_engine.specs.Stand.{Stand}
@@ -27,8 +27,8 @@ use Rattle.rr_engine.proofs.Entering.{rest-of}
 use Rattle.rr_engine.proofs.Idling.{wakeless}
 
 -- console bytes that were taken stand before
-pub with-taken : (g : State) → with_out g.devices.uart.out (without_out g) ≡ g
-with-taken g =
+pub taken-before : (g : State) → with_taken (out_alone g.devices.uart.out) (without_out g) ≡ g
+taken-before g =
     ap (λ z. record g { devices = record g.devices { uart = record g.devices.uart { out = z } } }) (append-nil g.devices.uart.out)
 
 -- the console got its bytes
@@ -37,10 +37,10 @@ shown-to : (o : Remainder) (p : Stand) (console : Option (List ℕ)) → p.log.u
     → Recorded Entire o o p (record p { machine = without_out p.machine; console = console })
 shown-to o p console works t = record {
   events = [];
-  bytes = p.machine.devices.uart.out;
+  taken = out_alone p.machine.devices.uart.out;
   last = without_out p.machine;
   are = tt;
-  runs = run-none p.machine ∙ ap (λ z. some_state z) (sym (with-taken p.machine));
+  runs = run-none p.machine ∙ ap (λ z. some_state z) (sym (taken-before p.machine));
   stands = λ same. refl;
   log = appended-none p.log works;
   log_faults = refl;
@@ -62,7 +62,7 @@ pub flushed-stopped : (o : Remainder) (p q : Stand) → Flushed p q → Stopped 
 flushed-stopped o p q f = record {
   recorded = record {
     events = [];
-    bytes = [];
+    taken = out_alone [];
     last = p.machine;
     are = tt;
     runs = run-none p.machine;
@@ -90,18 +90,18 @@ spill-to : (o : Remainder) (p r : Stand) (console : Option (List ℕ)) (faults :
     → Recorded Part o nothing_left p r
 spill-to o p r console faults t s = record {
   events = s.recorded.events;
-  bytes = p.machine.devices.uart.out ++ s.recorded.bytes;
+  taken = joined (out_alone p.machine.devices.uart.out) s.recorded.taken;
   last = s.recorded.last;
   are = s.recorded.are;
   runs =
-      ap (λ z. run z s.recorded.events) (sym (with-taken p.machine))
-      ∙ run-behind p.machine.devices.uart.out s.recorded.bytes s.recorded.events (without_out p.machine) s.recorded.last
+      ap (λ z. run z s.recorded.events) (sym (taken-before p.machine))
+      ∙ run-behind (out_alone p.machine.devices.uart.out) s.recorded.taken s.recorded.events (without_out p.machine) s.recorded.last
       s.recorded.runs;
   stands = λ same. absurd cc;
   log = s.recorded.log;
   log_faults = tt;
-  console = subst (λ (z : Option (List ℕ)). TakesFront p.console z (p.machine.devices.uart.out ++ s.recorded.bytes)) (sym s.console)
-      (TakesFront-longer p.console console p.machine.devices.uart.out s.recorded.bytes t);
+  console = subst (λ (z : Option (List ℕ)). TakesFront p.console z (p.machine.devices.uart.out ++ s.recorded.taken.out)) (sym s.console)
+      (TakesFront-longer p.console console p.machine.devices.uart.out s.recorded.taken.out t);
   console_faults = tt;
   left = s.recorded.left;
   heard = s.recorded.heard;
@@ -173,7 +173,7 @@ noted-stopped : (o : Remainder) (p : Stand) (m : State) (e : Event) (r : Stand) 
 noted-stopped o p m e r after s is ends none front console faults feed gave = record {
   recorded = record {
     events = e ∷ [];
-    bytes = [];
+    taken = out_alone [];
     last = m;
     are = (is, tt);
     runs = run-one p.machine m e s;
@@ -204,7 +204,7 @@ moved o p m =
     record {
       recorded = record {
         events = s.recorded.events;
-        bytes = s.recorded.bytes;
+        taken = s.recorded.taken;
         last = s.recorded.last;
         are = s.recorded.are;
         runs = s.recorded.runs;
@@ -273,18 +273,18 @@ logged-to : (o : Remainder) (shown : Extent) (p r : Stand) (console : Option (Li
     → r.console ≡ console → IsLogged Part o p r
 logged-to o shown p r console faults t s same = record {
   events = s.events;
-  bytes = p.machine.devices.uart.out ++ s.bytes;
+  taken = joined (out_alone p.machine.devices.uart.out) s.taken;
   last = s.last;
   are = s.are;
   runs =
-      ap (λ z. run z s.events) (sym (with-taken p.machine))
-      ∙ run-behind p.machine.devices.uart.out s.bytes s.events (without_out p.machine) s.last
+      ap (λ z. run z s.events) (sym (taken-before p.machine))
+      ∙ run-behind (out_alone p.machine.devices.uart.out) s.taken s.events (without_out p.machine) s.last
       s.runs;
   stopped = less-stopped shown s.last s.stopped;
   log = s.log;
   console = subst (λ (z : Option (List ℕ)). TakesFront p.console z
-      (p.machine.devices.uart.out ++ s.bytes)) (sym same)
-      (TakesFront-longer p.console console p.machine.devices.uart.out s.bytes t);
+      (p.machine.devices.uart.out ++ s.taken.out)) (sym same)
+      (TakesFront-longer p.console console p.machine.devices.uart.out s.taken.out t);
   all = λ same. absurd cc;
   left = s.left;
   heard = s.heard;
@@ -299,7 +299,7 @@ flushed-logged : (o : Remainder) (p q : Stand) (reason code : ℕ) → p.machine
     → Sent p q p.log.unsent.held (Ok tt) → IsLogged Part o p q
 flushed-logged o p q reason code going owed other s = record {
   events = [];
-  bytes = [];
+  taken = out_alone [];
   last = p.machine;
   are = tt;
   runs = run-none p.machine;
@@ -345,7 +345,7 @@ entered-logged o p q r e is ends none stopped silent s n sent =
     ∙ ap (λ (z : Stand). z.feed) rest in
     record {
       events = e ∷ [];
-      bytes = [];
+      taken = out_alone [];
       last = q.machine;
       are = (is, tt);
       runs = run-one p.machine q.machine e s;
@@ -442,7 +442,7 @@ shown-machine p q (Err NoMemory) s = absurd s
 
 -- what is due doesn't depend on bytes that were taken
 pub due-without : (g : State) → due (without_out g) ≡ due g
-due-without g = sym (due-with g.devices.uart.out (without_out g)) ∙ ap due (with-taken g)
+due-without g = sym (due-with (out_alone g.devices.uart.out) (without_out g)) ∙ ap due (taken-before g)
 
 -- a sink fails only where something is to be shown
 shown-some : (p q : Stand) (b : Break) → Shows p q (Err b) → p.machine.devices.uart.out ≢ []

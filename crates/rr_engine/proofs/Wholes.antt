@@ -17,7 +17,7 @@ use Rattle.board.specs.declared.config.Config.{Config}
 use Rattle.board.specs.Reset.{reset}
 use Rattle.elf_load.specs.declared.pieces.Loaded.{Loaded}
 use Rattle.rr_engine.specs.declared.parts.RunEnd.{RunEnd}
-use Rattle.board.specs.Taken.{with_out}
+use Rattle.board.specs.Taken.{Taken, with_taken}
 use Rattle.board.proofs.TakenLaws.{due-with}
 use Rattle.rr_engine.specs.declared.parts.Break.{Break}
 use Rattle.rr_engine.specs.declared.parts.Break.TheVariants.{ConsoleRead, ConsoleWrite, LogWrite, NoMemory}
@@ -118,8 +118,8 @@ no-header p q i j head ConsoleRead fi gj s = absurd s
 no-header p q i j head ConsoleWrite fi gj s = absurd s
 
 -- bytes that were taken play no part in where the run was stopped
-stopped-with : (shown : Extent) (front : List ℕ) (g : State) → IsStopped shown g
-    → IsStopped shown (with_out front g)
+stopped-with : (shown : Extent) (front : Taken) (g : State) → IsStopped shown g
+    → IsStopped shown (with_taken front g)
 stopped-with shown front g (inl ended) = inl ended
 stopped-with shown front g (inr owed) =
     inr (owed.0, owed.1, owed.2, owed.3, due-with front g ∙ owed.4, owed.5)
@@ -144,12 +144,12 @@ front-after : (p : Stand) (i j : Intake) (w : Writer) (r : Stand) (head : List �
     → Recorded Part nothing_left nothing_left (record p { log = w }) r → Front p.machine head (devices p i) (devices r j)
 front-after p i j w r head fresh gj taken none a = record {
   events = a.events;
-  last = with_out a.bytes a.last;
+  last = with_taken a.taken a.last;
   are = a.are;
   runs = a.runs;
   log = TakesFront-after p.log.taken w.taken r.log.taken head (texts a.events) taken
       (subst (λ (z : List ℕ). TakesFront w.taken r.log.taken (z ++ texts a.events)) none a.log);
-  console = TakesFront-longer p.console r.console a.bytes a.last.devices.uart.out a.console;
+  console = TakesFront-longer p.console r.console a.taken.out a.last.devices.uart.out a.console;
   input = came-part p.feed r.feed i j a.events a.left fresh.count fresh.feed gj fresh.sound a.heard;
   clock = a.clock;
 }
@@ -161,13 +161,13 @@ stopped-after : (shown : Extent) (p : Stand) (i j : Intake) (w : Writer) (r : St
     → ToStop shown p.machine head (devices p i) (devices r j)
 stopped-after shown p i j w r head fresh gj taken none a = record {
   events = a.events;
-  last = with_out a.bytes a.last;
+  last = with_taken a.taken a.last;
   are = a.are;
   runs = a.runs;
-  stopped = stopped-with shown a.bytes a.last a.stopped;
+  stopped = stopped-with shown a.taken a.last a.stopped;
   log = Takes-trans p.log.taken w.taken r.log.taken head (texts a.events) taken
       (subst (λ (z : List ℕ). Takes w.taken r.log.taken (z ++ texts a.events)) none a.log);
-  console = shown-with shown p.console r.console a.bytes a.last.devices.uart.out a.all a.console;
+  console = shown-with shown p.console r.console a.taken.out a.last.devices.uart.out a.all a.console;
   input = came-part p.feed r.feed i j a.events a.left fresh.count fresh.feed gj fresh.sound a.heard;
   clock = a.clock;
 }
@@ -254,13 +254,13 @@ whole-after p i j w r t head ending fresh gj taken none faults a rest same ended
     let input = came-entire p.feed r.feed i j a.events a.left fresh.count fresh.feed gj fresh.sound (a.leaves refl) a.heard in (
       record {
         events = a.events;
-        last = with_out a.bytes a.last;
+        last = with_taken a.taken a.last;
         are = a.are;
         runs = a.runs;
         ended = ap (λ (z : State). z.control.ended) stands ∙ ended;
         log = whole-log p.log.taken w.taken r.log.taken t.taken head a.log.written r.log.unsent.held (texts a.events)
             taken a.log.taken rest (a.log.whole ∙ ap (λ z. z ++ texts a.events) none);
-        console = subst (Takes p.console r.console) (sym (ap (λ z. a.bytes ++ z) out ∙ append-nil a.bytes)) a.console;
+        console = subst (Takes p.console r.console) (sym (ap (λ z. a.taken.out ++ z) out ∙ append-nil a.taken.out)) a.console;
         input = input.0;
         all_came = λ one. input.1 (wakeless-end r j ending gj rests ended one);
         clock = subst (Takes p.gave r.gave) (ap (λ z. clock_values a.events ++ z) (a.clock.all refl) ∙ append-nil (clock_values a.events))

@@ -10,7 +10,7 @@ use Rattle.event_log.specs.Spelling.{text, texts, IsEvent}
 use Rattle.event_log.specs.Writing.{Writer}
 use Rattle.board.specs.State.{State}
 use Rattle.board.specs.Runs.{step, run}
-use Rattle.board.specs.Taken.{with_out, without_out}
+use Rattle.board.specs.Taken.{Taken, with_taken, without_out}
 use Rattle.board.specs.Due.{due}
 use Rattle.board.specs.declared.due.Due.TheVariants as due_is
 use Rattle.board.specs.declared.control.Ending.{Ending}
@@ -69,20 +69,20 @@ abbrev pub Steady : Extent → Feed → Feed → Type 0
 Steady Entire old new = Unfailed old new
 Steady Part old new = Unit {0}
 
--- The machine took these events, and gave these console bytes away; the log has the events, the
+-- The machine took these events, and gave this away; the log has the events, the
 -- console the bytes, and the inputs and the clock gave what the events have. Where it broke off, the
 -- log has a front of that, and the console too. Before and after it the last window has so much to
 -- take; after it that is told where the recording didn't break off.
 pub record Recorded (extent : Extent) (before after : Remainder) (p q : Stand) : Type 0 where
   pub events : List Event
-  pub bytes : List ℕ
+  pub taken : Taken
   pub last : State
   pub are : AllByRecursion IsEvent events
-  pub runs : run p.machine events ≡ Some (with_out bytes last)
+  pub runs : run p.machine events ≡ Some (with_taken taken last)
   pub stands : extent ≡ Entire → last ≡ q.machine
   pub log : Logged extent p.log q.log (texts events)
   pub log_faults : Counted extent p.log.faults q.log.faults
-  pub console : Took extent p.console q.console bytes
+  pub console : Took extent p.console q.console taken.out
   pub console_faults : Counted extent p.console_faults q.console_faults
   pub left : Remainder
   pub heard : Hears before p.feed events left q.feed
@@ -102,13 +102,13 @@ IsStopped shown g =
 -- of the bytes, or a front.
 pub record IsLogged (shown : Extent) (before : Remainder) (p q : Stand) : Type 0 where
   pub events : List Event
-  pub bytes : List ℕ
+  pub taken : Taken
   pub last : State
   pub are : AllByRecursion IsEvent events
-  pub runs : run p.machine events ≡ Some (with_out bytes last)
+  pub runs : run p.machine events ≡ Some (with_taken taken last)
   pub stopped : IsStopped shown last
   pub log : Takes p.log.taken q.log.taken (p.log.unsent.held ++ texts events)
-  pub console : Took shown p.console q.console bytes
+  pub console : Took shown p.console q.console taken.out
   pub all : shown ≡ Entire → last.devices.uart.out ≡ []
   pub left : Remainder
   pub heard : Hears before p.feed events left q.feed
@@ -178,7 +178,7 @@ pub record Flushed (p q : Stand) : Type 0 where
 -- recorded
 pub record Stopped (before : Remainder) (p q : Stand) : Type 0 where
   pub recorded : Recorded Part before nothing_left p q
-  pub silent : recorded.bytes ≡ []
+  pub silent : recorded.taken.out ≡ []
   pub console : q.console ≡ p.console
   pub console_faults : q.console_faults ≡ p.console_faults
   pub feed : q.feed ≡ p.feed
