@@ -16,3 +16,5 @@ pub mod Sprints
 pub mod Quiet
 pub mod Settled
 pub mod LineLaws
+pub mod Effects
+pub mod UartHeld

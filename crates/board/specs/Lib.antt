@@ -5,6 +5,7 @@ pub mod Turn
 pub mod Due
 pub mod Accept
 pub mod Runs
+pub mod Effect
 pub mod Reset
 pub mod Taken
 pub mod Show

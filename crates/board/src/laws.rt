@@ -1,16 +1,17 @@
 //! Laws of whole runs.
 
-ghost use Rattle.std.specs.Prelude.{◌≡◌, ◌≤◌, ℕ, List, IfSome, IsSome};
+ghost use Rattle.std.specs.Prelude.{◌≡◌, ◌≤◌, ℕ, List, Some, IfSome, IsSome};
 ghost use Rattle.event_log.specs.declared.event.Event.{Event as AnEvent};
 ghost use Rattle.board.specs.State.{State};
 ghost use Rattle.board.specs.Due.{due};
 ghost use Rattle.board.specs.Close.{close};
 ghost use Rattle.board.specs.Turn.{turn};
-ghost use Rattle.board.specs.Runs.{run, turns, state_at};
+ghost use Rattle.board.specs.Runs.{step, run, turns, state_at};
 ghost use Rattle.board.specs.Taken.{Taken, with_taken, map_taken};
 ghost use Rattle.elf_load.specs.declared.pieces.Loaded.{Loaded as AnImage};
 ghost use Rattle.board.specs.declared.config.Config.{Config as AConfig};
 ghost use Rattle.board.specs.Reset.{reset};
+ghost use Rattle.board.specs.Effect.{Effect, IsStep, levelled};
 ghost use Rattle.board.specs.Laws.{NoLater, IsLaterBy, IdlesUntil, ResumesAt, ShowsLines};
 
 /// What was taken before plays no part in a run.
@@ -47,4 +48,10 @@ pub fn levels_are_the_lines()
     ensures run { (es : List AnEvent) (g : State) → ShowsLines g → IfSome (run g es) ShowsLines }
     ensures states { (es : List AnEvent) (g : State) (n : ℕ)
         → ShowsLines g → ShowsLines (state_at g es n) }
+{}
+
+/// An event is accepted exactly where it stands for the turns that run, or has an effect.
+pub fn steps_by_cases()
+    ensures step { (e : AnEvent) (g h : State) → step g e ≡ Some h → IsStep g e h }
+    ensures effect { (e : AnEvent) (g k : State) → Effect g e k → step g e ≡ Some (levelled k) }
 {}

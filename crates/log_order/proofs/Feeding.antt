@@ -20,7 +20,8 @@ use Rattle.board.proofs.ClockLaws.{step-counts}
 use Rattle.board.proofs.Counting.{after-counts}
 use Rattle.board.proofs.TakenLaws.{after-with}
 use Rattle.log_order.specs.Order.{stands}
-use Rattle.log_order.specs.Feeding.{Progress, accepted, refused, found_as, Halts, IsNoTurn, CountsTurns, Feeds}
+use Rattle.board.specs.Effect.{IsNoTurn}
+use Rattle.log_order.specs.Feeding.{Progress, accepted, refused, found_as, Halts, CountsTurns, Feeds}
 use Rattle.log_order.specs.declared.refusal.Found.{Found}
 use Rattle.log_order.specs.declared.runner.FeedError.TheVariants as error
 

@@ -1,23 +1,24 @@
 -- The first wrong place of a log is one, and no longer part is accepted.
-use Rattle.std.proofs.Common.{◌≡◌, ℕ, ◌+◌, ◌≤◌, Bool, true, false, cond, List, [], ◌∷◌, ◌++◌, length, length-append, refl, sym, ap, ◌∙◌, arith, append_assoc}
-use Rattle.std.specs.Prelude.{Option, Some, None, IsSome, IsNone, is_some, is_none, Result, Err, ◌==◌}
-use Rattle.std.proofs.lemmas.Bool.{ne_eqb}
+use Rattle.std.proofs.Common.{◌≡◌, ℕ, ◌+◌, ◌≤◌, Bool, true, false, List, [], ◌∷◌, ◌++◌, length, length-append, refl, sym, ap, ◌∙◌, arith, append_assoc}
+use Rattle.std.specs.Prelude.{Option, Some, None, IsSome, IsNone, is_some, is_none, Result, Err, ◌&&◌}
 use Rattle.event_log.specs.declared.event.Event.{Event}
-use Rattle.event_log.specs.declared.event.Event.TheVariants as event_is
 use Rattle.event_log.specs.declared.rule.Rule.{Rule}
 use Rattle.event_log.specs.Grammar.{Fault, Cut, Bad, Stops}
 use Rattle.event_log.specs.Spelling.{event, text, texts, IsEvent}
 use Rattle.event_log.proofs.Exact.{meets_read}
 use Rattle.event_log.proofs.FrontLemmas.{same_front, front_stops}
 use Rattle.board.specs.State.{State}
-use Rattle.board.specs.Accept.{accept, taken, takes, with_levels}
+use Rattle.board.specs.Accept.{is_open, takes_input}
 use Rattle.board.specs.Close.{close}
 use Rattle.board.specs.Due.{due, due_closed}
 use Rattle.board.specs.Runs.{is_run, ran, step, run, due_at}
+use Rattle.board.specs.Effect.{Effect, IsStep}
+use Rattle.board.specs.Effect as by
 use Rattle.board.specs.declared.due.Due.{Due}
 use Rattle.board.specs.declared.due.Due.TheVariants as due_is
 use Rattle.board.proofs.Counting.{close-keeps}
 use Rattle.board.proofs.RunFacts.{ran-none}
+use Rattle.board.proofs.Effects.{step_of}
 use Rattle.log_order.specs.declared.refusal.Found.{Found}
 use Rattle.log_order.specs.declared.refusal.Found.TheVariants as found
 use Rattle.log_order.specs.declared.refusal.Refusal.{Refusal}
@@ -41,37 +42,38 @@ ended-due g ended =
     ap (λ z. is_some z) (close-keeps g).ended ∙ ended in
     rw still refl
 
-takes-nothing : (e : Event) (g : State) → takes due_is.Nothing e g ≡ None
-takes-nothing e g = refl
+shut-by : (b c : Bool) → b ≡ false → (b && c) ≡ true → ⊥
+shut-by true c e o = cc
+shut-by false c e o = cc
 
-now-nothing : (g : State) (e : Event) → IsSome g.control.ended → takes (due g) e (close g) ≡ None
-now-nothing g e ended =
-    ap (λ z. takes z e (close g)) (ended-due g ended) ∙ takes-nothing e (close g)
+shut-ended : (g : State) → IsSome g.control.ended → takes_input g.control ≡ true → ⊥
+shut-ended g ended opened =
+    shut-by (is_none g.control.ended) (is_open g.control.window) (not-none g.control.ended ended) opened
 
-same-both : (b : Bool) (o : Option State) → cond b o o ≡ o
-same-both true o = refl
-same-both false o = refl
+-- nothing else is due, and no window takes an input
+no-effect : (e : Event) (g k : State) → IsSome g.control.ended → Effect g e k → ⊥
+no-effect e g k ended (by.exception d) = let n = ended-due g ended in absurd cc
+no-effect e g k ended (by.interrupt which d i) = let n = ended-due g ended in absurd cc
+no-effect e g k ended (by.idle d) = let n = ended-due g ended in absurd cc
+no-effect e g k ended (by.slice d) = let n = ended-due g ended in absurd cc
+no-effect e g k ended (by.clock value d) = let n = ended-due g ended in absurd cc
+no-effect e g k ended (by.end reason code d) = let n = ended-due g ended in absurd cc
+no-effect e g k ended (by.stop code opened) = shut-ended g ended opened
+no-effect e g k ended (by.char_read bytes opened) = shut-ended g ended opened
+no-effect e g k ended (by.net packet opened) = shut-ended g ended opened
 
-taken-none : (g : State) (e : Event) → IsSome g.control.ended → taken g e ≡ None
-unfolding taken
-taken-none g (event_is.CharRead bytes) ended = rw (not-none g.control.ended ended) refl
-taken-none g (event_is.Net bytes) ended = rw (not-none g.control.ended ended) refl
-taken-none g (event_is.Block id ok) ended = refl
-taken-none g (event_is.End reason code) ended =
-    rw (not-none g.control.ended ended, now-nothing g (event_is.End reason code) ended)
-    (same-both (reason == 3) None)
-taken-none g e ended = now-nothing g e ended
+no-step : (e : Event) (g h : State) → IsEvent e → IsSome g.control.ended → IsStep g e h → ⊥
+no-step e g h is ended (by.turns n made other) =
+    let none : ran n g ≡ 0 = ran-none n g (ap is_run (ended-due g ended)) in
+    omega (arith, made, none, is.0)
+no-step e g h is ended (by.taking f) = no-effect e g f.before ended f.effect
 
-accept-none : (g : State) (e : Event) → IsSome g.control.ended → accept g e ≡ None
-unfolding accept
-accept-none g e ended = ap with_levels (taken-none g e ended)
+none-of : (o : Option State) → ((h : State) → o ≡ Some h → ⊥) → o ≡ None
+none-of None never = refl
+none-of (Some h) never = absurd (never h refl)
 
 pub ended-none : (g : State) (e : Event) → IsEvent e → IsSome g.control.ended → step g e ≡ None
-unfolding step
-ended-none g (event_is.Instruction n) is ended =
-    let none : ran n g ≡ 0 = ran-none n g (ap is_run (ended-due g ended)) in
-    rw none (rw (ne_eqb 0 n (λ e. omega (arith, e, is.0))) refl)
-ended-none g e is ended = accept-none g e ended
+ended-none g e is ended = none-of (step g e) (λ h s. no-step e g h is ended (step_of e g h s))
 
 -- ---- where a log comes to a halt
 

@@ -93,11 +93,6 @@ abbrev pub CountsTurns : Progress → Progress → ℕ → ℕ → Type 0
 CountsTurns p q steps steps' =
     steps' + p.machine.devices.time.count ≡ steps + q.machine.devices.time.count
 
--- an event that is accepted without a turn
-abbrev pub IsNoTurn : Event → Type 0
-IsNoTurn (event.Instruction count) = ⊥
-IsNoTurn other = Unit {0}
-
 -- As many turns as run stand for an INSTRUCTION, and none for no event; or memory was refused where
 -- the next turn stores, and the turns before stay made.
 abbrev pub Advances : Progress → Result ℕ AllocError → Progress → Type 0

@@ -3,7 +3,8 @@
 ghost use Rattle.std.specs.Prelude.{◌≡◌, [], None, option_copied, take};
 ghost use Rattle.event_log.specs.Spelling.{IsEvent};
 ghost use Rattle.board.specs.Taken.{without_out};
-ghost use Rattle.log_order.specs.Feeding.{starting, accepted, refused, refused_first, found_as, Feeds, Advances, CountsTurns, IsNoTurn};
+ghost use Rattle.board.specs.Effect.{IsNoTurn};
+ghost use Rattle.log_order.specs.Feeding.{starting, accepted, refused, refused_first, found_as, Feeds, Advances, CountsTurns};
 
 use crate::refusal::{Found, Refusal};
 use board::{AcceptError, Due, Ending, Machine, Steps};

@@ -8,6 +8,7 @@ use Rattle.event_log.specs.declared.event.Event.{Event}
 use Rattle.event_log.specs.declared.event.Event.TheVariants as event
 use Rattle.event_log.specs.Spelling.{text, texts, IsEvent}
 use Rattle.event_log.specs.Writing.{Writer}
+use Rattle.board.specs.Effect.{IsNoTurn}
 use Rattle.board.specs.Taken.{out_alone}
 use Rattle.board.specs.State.{State}
 use Rattle.board.specs.Runs.{step}
@@ -18,7 +19,7 @@ use Rattle.rr_engine.specs.Stand.{Stand}
 use Rattle.rr_engine.specs.Input.{Extent, Entire, Part}
 use Rattle.rr_engine.specs.Feed.{Feed}
 use Rattle.rr_engine.specs.Windows.{Remainder, Unreceived, Left, nothing_left, Hears}
-use Rattle.rr_engine.specs.Recording.{clock_value, clock_values, Appended, Gave, Recorded, Goes, Notes, Enters, IsNoTurn}
+use Rattle.rr_engine.specs.Recording.{clock_value, clock_values, Appended, Gave, Recorded, Goes, Notes, Enters}
 use Rattle.rr_engine.proofs.Feeding.{hears-none, unfailed-same}
 use Rattle.rr_engine.proofs.Joining.{run-none, run-one}
 

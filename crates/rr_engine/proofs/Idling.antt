@@ -1,6 +1,6 @@
 -- What events and turns leave of the window and of the end.
 use Rattle.std.proofs.Common.{◌≡◌, ℕ, zero, suc, ◌+◌, ◌≤◌, Bool, true, false, List, refl, sym, ap, ◌∙◌, subst, inl, inr, arith}
-use Rattle.std.specs.Prelude.{◌==◌, ◌&&◌, ◌⊎◌, Some, None, is_none, is_some, if◌then◌else◌}
+use Rattle.std.specs.Prelude.{◌&&◌, ◌⊎◌, Some, None, is_none}
 use Rattle.std.specs.declared.option.Option.{Option}
 use Rattle.std.proofs.lemmas.Bool.{cases_Bool}
 use Rattle.rv_exec.specs.declared.done.Done.{Done}
@@ -13,22 +13,23 @@ use Rattle.board.specs.declared.control.Ending.{Ending}
 use Rattle.board.specs.declared.control.Window.{Window}
 use Rattle.board.specs.declared.control.Window.TheVariants as window
 use Rattle.system_bus.specs.declared.devices.Devices.{Devices}
-use Rattle.board.specs.declared.due.Due.{Due}
 use Rattle.board.specs.declared.due.Due.TheVariants as due_is
 use Rattle.board.specs.State.{State}
 use Rattle.board.specs.Close.{wakes, deadline, rests, close_window, close}
-use Rattle.board.specs.Due.{is_idle_window, due, due_closed, has_in_flight, interrupt_of, needs_clock}
-use Rattle.board.specs.Accept.{accept, taken, takes, takes_interrupt, takes_input, is_open, used, received, delivered, with_used_window, in_window, ended, with_levels}
+use Rattle.board.specs.Due.{is_idle_window, due}
+use Rattle.board.specs.Accept.{takes_input, is_open, used, received, delivered, with_used_window}
+use Rattle.board.specs.Effect.{Effect, levelled}
+use Rattle.board.specs.Effect as by
 use Rattle.system_bus.specs.Lines.{levels}
 use Rattle.board.specs.Turn.{attempt, settle, turn, turn_closed}
 use Rattle.board.specs.Runs.{is_run, after, step}
 use Rattle.board.proofs.Counting.{close-keeps}
+use Rattle.board.proofs.Effects.{effect_of}
 use Rattle.rr_engine.specs.Recording.{IsOwn}
 use Rattle.rr_engine.specs.Work.{is_restless, work}
-use Rattle.rr_engine.proofs.Joining.{some_state, some_is}
-use Rattle.rr_engine.proofs.Owing.{level-keeps}
+use Rattle.rr_engine.proofs.Owing.{own-still, end-silent}
 use Rattle.rr_engine.proofs.Entering.{IsPlain}
-use Rattle.rr_engine.proofs.Falling.{Means, means}
+use Rattle.rr_engine.proofs.Falling.{means-at}
 use Rattle.rr_engine.proofs.Running.{bit-most}
 
 -- ---- closing a window
@@ -76,13 +77,9 @@ window-idle (window.Idle u) g is =
 -- an end for want of a wake is due in an idle window without an event
 pub wakeless : (g : State) (reason code : ℕ) → due g ≡ due_is.End reason code → reason ≡ 1
     → g.control.window ≡ window.Idle false
-unfolding due due_closed close
+unfolding close
 wakeless g reason code d one =
-    let k = close g in
-    let m = means k.control k.devices.time.count k.devices.finisher (has_in_flight k.devices)
-    (is_some (interrupt_of k)) (needs_clock k) in
-    window-idle g.control.window g refl
-    (subst (λ (z : Due). Means k.control (is_some (interrupt_of k)) (needs_clock k) z) d m one)
+    window-idle g.control.window g refl (means-at g (due_is.End reason code) d one)
 
 -- ---- events
 
@@ -94,61 +91,20 @@ Leaves c (event.End reason code) c' =
     (c'.window ≡ c.window) × (c'.ended ≡ Some (record { reason = reason; code = code }))
 Leaves c other c' = (c'.window ≡ c.window) × (c'.ended ≡ c.ended)
 
-interrupt-leaves : (g : State) (o : Option ℕ) (h : State) → takes_interrupt g o ≡ Some h
-    → Leaves g.control event.Interrupt h.control
-interrupt-leaves g None h e = absurd cc
-interrupt-leaves g (Some which) h e =
-    subst (λ (z : State). Leaves g.control event.Interrupt z.control) (some_is _ h e) (refl, refl)
-
-end-leaves : (g h : State) (b : Bool) (reason code : ℕ)
-    → (if b then some_state (ended g reason code) else None) ≡ Some h → Leaves g.control (event.End reason code) h.control
-end-leaves g h true reason code e =
-    subst (λ (z : State). Leaves g.control (event.End reason code) z.control) (some_is (ended g reason code) h e) (refl, refl)
-end-leaves g h false reason code e = absurd cc
-
-takes-leaves : (d : Due) (e : Event) (g h : State) → takes d e g ≡ Some h → Leaves g.control e h.control
-takes-leaves due_is.Exception event.Exception g h e =
-    subst (λ (z : State). Leaves g.control event.Exception z.control) (some_is _ h e) (refl, refl)
-takes-leaves due_is.Interrupt event.Interrupt g h e = interrupt-leaves g (interrupt_of g) h e
-takes-leaves due_is.Idle (event.Checkpoint true) g h e =
-    subst (λ (z : State). Leaves g.control (event.Checkpoint true) z.control) (some_is _ h e) (refl, refl)
-takes-leaves due_is.Slice (event.Checkpoint false) g h e =
-    subst (λ (z : State). Leaves g.control (event.Checkpoint false) z.control) (some_is _ h e) (refl, refl)
-takes-leaves due_is.Clock (event.Clock value) g h e =
-    subst (λ (z : State). Leaves g.control (event.Clock value) z.control) (some_is _ h e) (refl, refl)
-takes-leaves (due_is.End r c) (event.End reason code) g h e = end-leaves g h (r == reason && c == code) reason code e
-takes-leaves d e g h s = absurd cc
-
 -- the control of the state in which an event was taken: its window is closed, but for END 3
 abbrev pub From : State → Event → Control → Type 0
 From g e c = Leaves (close g).control e c ⊎ Leaves g.control e c
 
-conclusion-leaves : (b : Bool) (g h : State) (reason code : ℕ)
-    → (if b then in_window g (ended g reason code) else takes (due g) (event.End reason code) (close g)) ≡ Some h
-    → From g (event.End reason code) h.control
-conclusion-leaves true g h reason code e = inr (end-leaves g h (takes_input g.control) reason code e)
-conclusion-leaves false g h reason code e = inl (takes-leaves (due g) (event.End reason code) (close g) h e)
-
-taken-leaves : (e : Event) (g h : State) → IsOwn e → taken g e ≡ Some h → From g e h.control
-unfolding taken
-taken-leaves event.Interrupt g h own t = inl (takes-leaves (due g) event.Interrupt (close g) h t)
-taken-leaves event.Exception g h own t = inl (takes-leaves (due g) event.Exception (close g) h t)
-taken-leaves (event.Clock value) g h own t = inl (takes-leaves (due g) (event.Clock value) (close g) h t)
-taken-leaves (event.Checkpoint idle) g h own t = inl (takes-leaves (due g) (event.Checkpoint idle) (close g) h t)
-taken-leaves (event.End reason code) g h own t = conclusion-leaves (reason == 3) g h reason code t
-taken-leaves e g h own t = absurd own
-
-accept-leaves : (e : Event) (g h : State) → IsOwn e → accept g e ≡ Some h → From g e h.control
-unfolding accept
-accept-leaves e g h own a = level-keeps (From g e) (taken g e) h a (λ k t. taken-leaves e g k own t)
+effect-leaves : (e : Event) (g k : State) → IsOwn e → Effect g e k → From g e k.control
+effect-leaves e g k own (by.stop code opened) = inr (refl, refl)
+effect-leaves e g k own (by.char_read bytes opened) = absurd own
+effect-leaves e g k own (by.net packet opened) = absurd own
+effect-leaves e g k own f = inl (refl, refl)
 
 step-leaves : (e : Event) (g h : State) → IsOwn e → step g e ≡ Some h → From g e h.control
-unfolding step
-step-leaves (event.Instruction n) g h own s = absurd own
-step-leaves (event.CharRead bytes) g h own s = absurd own
-step-leaves (event.Block id ok) g h own s = absurd own
-step-leaves (event.Net packet) g h own s = absurd own
-step-leaves e g h own s = accept-leaves e g h own s
+step-leaves e g h own s =
+    let f = effect_of e g h (own-still e own) s in
+    subst (λ (z : State). From g e z.control) (sym f.levels) (effect-leaves e g f.before own f.effect)
 
 -- an event that neither opens a window nor ends the run
 abbrev pub IsInner : Event → Type 0
@@ -161,34 +117,19 @@ pub inner-own : (e : Event) → IsInner e → IsOwn e
 inner-own event.Interrupt i = tt
 inner-own event.Exception i = tt
 inner-own (event.Clock value) i = tt
-inner-own (event.Instruction n) i = absurd i
-inner-own (event.CharRead bytes) i = absurd i
-inner-own (event.Block id ok) i = absurd i
-inner-own (event.Net packet) i = absurd i
-inner-own (event.Checkpoint idle) i = absurd i
-inner-own (event.End reason code) i = absurd i
+inner-own e i = absurd i
 
 pub inner-plain : (e : Event) → IsInner e → IsPlain e
 inner-plain event.Interrupt i = tt
 inner-plain event.Exception i = tt
 inner-plain (event.Clock value) i = tt
-inner-plain (event.Instruction n) i = absurd i
-inner-plain (event.CharRead bytes) i = absurd i
-inner-plain (event.Block id ok) i = absurd i
-inner-plain (event.Net packet) i = absurd i
-inner-plain (event.Checkpoint idle) i = absurd i
-inner-plain (event.End reason code) i = absurd i
+inner-plain e i = absurd i
 
 inner-leaves : (e : Event) (c c' : Control) → IsInner e → Leaves c e c' → (c'.window ≡ c.window) × (c'.ended ≡ c.ended)
 inner-leaves event.Interrupt c c' i l = l
 inner-leaves event.Exception c c' i l = l
 inner-leaves (event.Clock value) c c' i l = l
-inner-leaves (event.Instruction n) c c' i l = absurd i
-inner-leaves (event.CharRead bytes) c c' i l = absurd i
-inner-leaves (event.Block id ok) c c' i l = absurd i
-inner-leaves (event.Net packet) c c' i l = absurd i
-inner-leaves (event.Checkpoint idle) c c' i l = absurd i
-inner-leaves (event.End reason code) c c' i l = absurd i
+inner-leaves e c c' i l = absurd i
 
 -- such an event leaves an idle window where it stood, and ends nothing
 pub inner-idle : (e : Event) (g h : State) → IsInner e → step g e ≡ Some h → h.control.window ≡ window.Idle false
@@ -218,11 +159,7 @@ end-idle g h reason code s w =
 
 pub end-ended : (g h : State) (reason code : ℕ) → step g (event.End reason code) ≡ Some h
     → h.control.ended ≡ Some (record { reason = reason; code = code })
-end-ended g h reason code s =
-    elim (step-leaves (event.End reason code) g h tt s) [
-      | inl l ↦ l.1
-      | inr l ↦ l.1
-    ]
+end-ended g h reason code s = (end-silent g h reason code s).ended
 
 -- a checkpoint that isn't an idle one opens no idle window
 pub checkpoint-idle : (g h : State) (idle : Bool) → step g (event.Checkpoint idle) ≡ Some h
@@ -267,14 +204,7 @@ after-idle (suc n) g =
 
 -- a turn that is due is made in no idle window
 turn-shut : (g : State) → due g ≡ due_is.Run → (turn g).control.window ≡ window.Idle false → ⊥
-unfolding due due_closed
-turn-shut g d w =
-    let k = close g in
-    let m = means k.control k.devices.time.count k.devices.finisher (has_in_flight k.devices)
-    (is_some (interrupt_of k)) (needs_clock k) in
-    let shut : is_idle_window k.control.window ≡ false =
-    subst (λ (z : Due). Means k.control (is_some (interrupt_of k)) (needs_clock k) z) d m in
-    not-both (sym shut ∙ ap is_idle_window (turn-closed g w))
+turn-shut g d w = not-both (sym (means-at g due_is.Run d) ∙ ap is_idle_window (turn-closed g w))
   where
     not-both : false ≡ true → ⊥
     not-both e = cc
@@ -314,47 +244,49 @@ parts-open : (o : Option Ending) (w : Window) → o ≡ None → is_open w ≡ t
 parts-open None w n e = e
 parts-open (Some ending) w n e = absurd cc
 
-typed-to : (b : Bool) (k h : State) → b ≡ true → with_levels (if b then some_state k else None) ≡ Some h
-    → record k { devices = levels k.devices } ≡ h
-typed-to true k h on e = some_is _ h e
-typed-to false k h on e = absurd cc
-
 typed-marks : (g : State) (bytes : List ℕ) → takes_input g.control ≡ true
-    → (k : State) → k ≡ with_used_window (received g bytes) → Typed g (record k { devices = levels k.devices })
+    → Typed g (levelled (with_used_window (received g bytes)))
 unfolding work levels
-typed-marks g bytes opens k same =
+typed-marks g bytes opens =
     let parts = open-parts g.control.ended g.control.window opens in
-    subst (λ (z : State). Typed g (record z { devices = levels z.devices })) (sym same) (record {
+    record {
       used = λ e. used-window g.control.window parts.1 e;
       going = parts.0;
       opens = parts-open g.control.ended (used g.control.window) parts.0 (used-open g.control.window parts.1);
       silent = refl;
       work = omega (arith, bit-most (g.control.idle && is_restless (used g.control.window)));
-    })
+    }
 
 packet-marks : (g : State) (packet : List ℕ) → takes_input g.control ≡ true
-    → (k : State) → k ≡ with_used_window (delivered g packet) → Typed g (record k { devices = levels k.devices })
+    → Typed g (levelled (with_used_window (delivered g packet)))
 unfolding work levels
-packet-marks g packet opens k same =
+packet-marks g packet opens =
     let parts = open-parts g.control.ended g.control.window opens in
-    subst (λ (z : State). Typed g (record z { devices = levels z.devices })) (sym same) (record {
+    record {
       used = λ e. used-window g.control.window parts.1 e;
       going = parts.0;
       opens = parts-open g.control.ended (used g.control.window) parts.0 (used-open g.control.window parts.1);
       silent = refl;
       work = omega (arith, bit-most (g.control.idle && is_restless (used g.control.window)));
-    })
+    }
 
-pub types : (g h : State) (bytes : List ℕ) → takes_input g.control ≡ true → step g (event.CharRead bytes) ≡ Some h
-    → Typed g h
-unfolding step accept taken
-types g h bytes opens s =
-    let k = with_used_window (received g bytes) in
-    subst (Typed g) (typed-to (takes_input g.control) k h opens s) (typed-marks g bytes opens k refl)
+-- an event from outside
+abbrev IsInput : Event → Type 0
+IsInput (event.CharRead bytes) = Unit {0}
+IsInput (event.Net packet) = Unit {0}
+IsInput other = ⊥
 
-pub delivers : (g h : State) (packet : List ℕ) → takes_input g.control ≡ true → step g (event.Net packet) ≡ Some h
-    → Typed g h
-unfolding step accept taken
-delivers g h packet opens s =
-    let k = with_used_window (delivered g packet) in
-    subst (Typed g) (typed-to (takes_input g.control) k h opens s) (packet-marks g packet opens k refl)
+input-marks : (e : Event) (g k : State) → IsInput e → Effect g e k → Typed g (levelled k)
+input-marks e g k i (by.char_read bytes opened) = typed-marks g bytes opened
+input-marks e g k i (by.net packet opened) = packet-marks g packet opened
+input-marks e g k i f = absurd i
+
+pub types : (g h : State) (bytes : List ℕ) → step g (event.CharRead bytes) ≡ Some h → Typed g h
+types g h bytes s =
+    let f = effect_of (event.CharRead bytes) g h tt s in
+    subst (Typed g) (sym f.levels) (input-marks (event.CharRead bytes) g f.before tt f.effect)
+
+pub delivers : (g h : State) (packet : List ℕ) → step g (event.Net packet) ≡ Some h → Typed g h
+delivers g h packet s =
+    let f = effect_of (event.Net packet) g h tt s in
+    subst (Typed g) (sym f.levels) (input-marks (event.Net packet) g f.before tt f.effect)

@@ -48,8 +48,8 @@ is-windows (item.Packet packet) = tt
 is-windows (item.Done id read) = tt
 
 typed-by : (g h : State) (x : Item) → IsInput x → takes_input g.control ≡ true → step g (event_of_item x) ≡ Some h → Typed g h
-typed-by g h (item.Console bytes) is opens s = types g h bytes opens s
-typed-by g h (item.Packet packet) is opens s = delivers g h packet opens s
+typed-by g h (item.Console bytes) is opens s = types g h bytes s
+typed-by g h (item.Packet packet) is opens s = delivers g h packet s
 typed-by g h (item.Done id read) is opens s = absurd is
 
 pub input-goes : (p q : Stand) (x : Item) (more : List Event) (b : Bool) (y : Result (Unit {0}) Break) → IsInput x

@@ -200,11 +200,6 @@ Stops shown before p q (Err NoMemory) = Stopped before p q
 Stops shown before p q (Err ConsoleRead) = ⊥
 Stops shown before p q (Err ConsoleWrite) = ⊥
 
--- an event that is accepted without a turn
-abbrev pub IsNoTurn : Event → Type 0
-IsNoTurn (event.Instruction count) = ⊥
-IsNoTurn other = Unit {0}
-
 -- The machine took the event and the log got it, as far as its sink took it; or memory was refused
 -- before, and all is as it was.
 abbrev pub Enters : Stand → Stand → Event → Result (Unit {0}) Break → Type 0

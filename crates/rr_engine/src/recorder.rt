@@ -3,7 +3,8 @@
 ghost use Rattle.std.specs.Prelude.{◌≡◌, false};
 ghost use Rattle.event_log.specs.Spelling.{text, IsEvent};
 ghost use Rattle.rr_engine.specs.Stand.{stand};
-ghost use Rattle.rr_engine.specs.Recording.{IsOwed, IsNoTurn, Enters, Notes, Shows};
+ghost use Rattle.board.specs.Effect.{IsNoTurn};
+ghost use Rattle.rr_engine.specs.Recording.{IsOwed, Enters, Notes, Shows};
 
 use crate::inputs::Inputs;
 use crate::parts::{Break, RecordParts};
