@@ -30,7 +30,7 @@ use Rattle.board.specs.Close.{wakes, deadline, rests, close_window, close, Keeps
 use Rattle.board.specs.Turn.{run_word, fetched, attempt, settle, turn_closed, turn}
 use Rattle.board.specs.Due.{is_idle_window, ended_by, has_in_flight, due_by, interrupt_of, needs_clock, due_closed, due}
 use Rattle.board.specs.Runs.{is_run, after, ran}
-use Rattle.board.specs.Answers.{Counts}
+use Rattle.board.specs.Bounds.{Counts}
 use Rattle.system_bus.proofs.Levels.{levels_time}
 use Rattle.board.proofs.TimeHeld.{attempt_time}
 use Rattle.board.proofs.Unrefused.{is_refusal, is_memory_error, Fed, meaning-fed}

@@ -28,14 +28,6 @@ Turns g turned.NoMemory after steps steps' =
 abbrev pub peeked : List ℕ → ℕ → Option ℕ
 peeked ram at = ram_load ram at 1
 
--- the counts keep within their bounds
-pub record Counts (c : Control) (t : Time) : Type 0 where
-  pub budget : c.budget ≤ 2 ^ 40
-  pub slice : c.slice ≤ 65536
-  pub some : 1 ≤ c.slice
-  pub since : c.since ≤ c.slice
-  pub count : t.count ≤ c.budget
-
 -- a step of a state whose window is closed
 abbrev pub StepsTo : State → Stepped → State → Type 0
 StepsTo g stepped.Turned after = (due_closed g ≡ due_is.Run) × (after ≡ turn_closed g)
@@ -60,11 +52,3 @@ RunsTo g limit (Err e) g' steps steps' =
 -- want of memory changed nothing, where the turn else retires
 abbrev pub Refused : {B : Type 0} → Outcome B → Hart → B → Hart → B → Type 0
 Refused o h s h' s' = (o.done ≡ Retired false) × (h' ≡ h) × (s' ≡ s)
-
--- what can be due, while the run goes on
-abbrev pub IsDue : Control → Bool → Due → Type 0
-IsDue c in_flight due_is.Nothing = IsSome c.ended
-IsDue c in_flight due_is.Wait = in_flight ≡ true
-IsDue c in_flight (due_is.End reason code) =
-    (reason ≤ 2) × (code < 2 ^ 32) × (1 ≤ reason → code ≡ 0)
-IsDue c in_flight due = Unit {0}

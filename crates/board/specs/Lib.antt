@@ -10,5 +10,6 @@ pub mod Reset
 pub mod Taken
 pub mod Show
 pub mod Answers
+pub mod Bounds
 pub mod Laws
 pub mod Sprint

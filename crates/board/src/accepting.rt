@@ -6,9 +6,9 @@ ghost use Rattle.board.specs.Accept.{Accepts, Takes, TakesDue, AsksWindow, takes
 
 use crate::closing::closed;
 use crate::control::{Control, Ending, Window};
-use crate::deciding::interrupt_at;
 use crate::due::Due;
 use crate::machine::Machine;
+use crate::pending::interrupt_at;
 use event_log::Event;
 use rv_csr::Mode;
 use rv_exec::Hart;

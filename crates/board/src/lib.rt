@@ -13,6 +13,7 @@ mod due;
 mod firmware;
 pub mod laws;
 mod machine;
+mod pending;
 mod running;
 mod showing;
 mod sprinting;

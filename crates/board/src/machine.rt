@@ -6,15 +6,17 @@ ghost use Rattle.board.specs.Reset.{reset as reset_of, IsConfig};
 ghost use Rattle.board.specs.Close.{deadline as deadline_of};
 ghost use Rattle.board.specs.Due.{due as due_of, has_in_flight};
 ghost use Rattle.board.specs.Taken.{without_out};
-ghost use Rattle.board.specs.Answers.{IsDue, Counts, peeked};
+ghost use Rattle.board.specs.Bounds.{IsDue, Counts};
+ghost use Rattle.board.specs.Answers.{peeked};
 ghost use Rattle.board.specs.Accept.{is_open};
 
 use crate::closing::{closed, deadline};
 use crate::config::Config;
 use crate::control::{Control, Ending, Window};
-use crate::deciding::{due_by, interrupt_at, needs_clock};
+use crate::deciding::due_by;
 use crate::due::Due;
 use crate::firmware::ram_with;
+use crate::pending::{interrupt_at, needs_clock};
 use clint_rtc::{Clint, Finisher, Rtc};
 use elf_load::Loaded;
 use outside::NoMemory;
@@ -38,7 +40,7 @@ pub struct Machine {
 
 impl Model for Machine {
     ghost use Rattle.board.specs.State.{State as Shown};
-    ghost use Rattle.board.specs.Answers.{Counts};
+    ghost use Rattle.board.specs.Bounds.{Counts};
 
     ghost Value = { Shown };
 

@@ -6,8 +6,8 @@ ghost use Rattle.system_bus.specs.Lines.{levels};
 ghost use Rattle.board.specs.Sprint.{IsQuiet, HasRoom, IsFree, counted_up, MakesUncounted, SprintsTo};
 
 use crate::control::Window;
-use crate::deciding::interrupt_at;
 use crate::machine::Machine;
+use crate::pending::interrupt_at;
 use crate::steps::Steps;
 use std::sync::ledger::Ledger;
 

@@ -3,11 +3,13 @@
 ghost use Rattle.std.specs.Prelude.{◌≡◌, ◌≢◌, ◌<◌, ◌^◌, true};
 ghost use Rattle.rv_exec.specs.Rows.{Reaches, is_need_clock};
 ghost use Rattle.board.specs.Turn.{attempt as attempt_of, entered, settle as settle_of, wants_memory};
-ghost use Rattle.board.specs.Answers.{Counts, Refused, StepsTo};
+ghost use Rattle.board.specs.Bounds.{Counts};
+ghost use Rattle.board.specs.Answers.{Refused, StepsTo};
 ghost use Rattle.board.specs.Sprint.{is_clear as is_clear_of};
 
 use crate::control::Control;
-use crate::deciding::{interrupt_at, is_clear};
+use crate::deciding::is_clear;
+use crate::pending::interrupt_at;
 use rv_csr::Mode;
 use rv_decode::DecodeCache;
 use rv_exec::{Done, Hart, execute};

@@ -8,8 +8,8 @@ use Rattle.outside.specs.Roles.{at}
 use Rattle.outside.specs.declared.roles.Role.{Role}
 use Rattle.outside.specs.declared.roles.Role.TheVariants.{ConsoleIn, ConsoleOut, LogIn, LogOut, Firmware}
 use Rattle.board.specs.State.{State}
-use Rattle.rr_engine.specs.declared.parts.RunEnd.{RunEnd}
-use Rattle.rr_engine.specs.declared.parts.RunEnd.TheVariants.{End, ConsoleRead, ConsoleWrite, LogWrite, NoMemory}
+use Rattle.rr_engine.specs.declared.ends.RunEnd.{RunEnd}
+use Rattle.rr_engine.specs.declared.ends.RunEnd.TheVariants.{End, ConsoleRead, ConsoleWrite, LogWrite, NoMemory}
 use Rattle.rr_engine.specs.Stand.{Devices}
 use Rattle.rr_engine.specs.Runs.{Records}
 use Rattle.commands.specs.declared.devices.RecordingEnd.{RecordingEnd}

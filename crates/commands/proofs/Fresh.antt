@@ -14,8 +14,8 @@ use Rattle.event_log.specs.declared.header.Header.{Header}
 use Rattle.event_log.specs.HeaderFormat.{header_text}
 use Rattle.board.specs.State.{State}
 use Rattle.board.specs.Reset.{start_of}
-use Rattle.rr_engine.specs.declared.parts.RunEnd.{RunEnd}
-use Rattle.rr_engine.specs.declared.parts.RunEnd.TheVariants.{End, ConsoleRead, ConsoleWrite, LogWrite, NoMemory}
+use Rattle.rr_engine.specs.declared.ends.RunEnd.{RunEnd}
+use Rattle.rr_engine.specs.declared.ends.RunEnd.TheVariants.{End, ConsoleRead, ConsoleWrite, LogWrite, NoMemory}
 use Rattle.rr_engine.specs.Stand.{Devices}
 use Rattle.rr_engine.specs.Input.{Extent, Entire, Part, Paid, typed, Hears}
 use Rattle.rr_engine.specs.Recording.{clock_values, Took}

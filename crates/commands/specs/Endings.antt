@@ -4,8 +4,8 @@ use Rattle.outside.specs.Ledger.{Ledger, StartsEmpty, source_back, sink_back, cl
 use Rattle.outside.specs.Roles.{at}
 use Rattle.outside.specs.declared.roles.Role.{Role}
 use Rattle.outside.specs.declared.roles.Role.TheVariants.{ConsoleIn, ConsoleOut, LogOut}
-use Rattle.rr_engine.specs.declared.parts.RunEnd.{RunEnd}
-use Rattle.rr_engine.specs.declared.parts.RunEnd.TheVariants as run_end
+use Rattle.rr_engine.specs.declared.ends.RunEnd.{RunEnd}
+use Rattle.rr_engine.specs.declared.ends.RunEnd.TheVariants as run_end
 use Rattle.rr_engine.specs.Stand.{Devices}
 use Rattle.rr_engine.specs.Input.{Extent, Entire, Part}
 use Rattle.rr_engine.specs.Runs.{IsOwnReason}

@@ -33,7 +33,7 @@ use Rattle.rr_engine.specs.Stand.{Devices}
 use Rattle.rr_engine.specs.Input.{Extent, Entire, Debt, Owed, Paid, Hears}
 use Rattle.rr_engine.specs.Recording.{clock_values}
 use Rattle.rr_engine.specs.Runs.{Records}
-use Rattle.rr_engine.specs.declared.parts.RunEnd.TheVariants as run_end
+use Rattle.rr_engine.specs.declared.ends.RunEnd.TheVariants as run_end
 use Rattle.rr_engine.specs.declared.replaying.ReplayEnd.{ReplayEnd}
 use Rattle.rr_engine.specs.declared.replaying.ReplayEnd.TheVariants.{End, ConsoleWrite, LogRead, LogTooLong, Refused, NoMemory}
 use Rattle.rr_engine.specs.Replaying.{Played, played, PlaysToWrong, PlaysToLimit, PlaysWhole, Replays, IsWrongAt, IsPastLimit}

@@ -7,7 +7,7 @@ use Rattle.board.specs.State.{State}
 use Rattle.board.specs.Due.{due}
 use Rattle.board.specs.Turn.{turn}
 use Rattle.board.specs.Runs.{is_run, after, ran, step}
-use Rattle.board.specs.Answers.{Counts}
+use Rattle.board.specs.Bounds.{Counts}
 use Rattle.board.proofs.Counting.{over}
 use Rattle.board.proofs.DueFacts.{is_run_run}
 use Rattle.board.proofs.RunFacts.{ran-more}

@@ -71,14 +71,7 @@ accepted-more bytes g mid last es e rest more a is split s =
 
 pub text-some : (e : Event) → 0 < length (text e)
 text-some (event_is.Instruction n) = omega arith
-text-some event_is.Interrupt = omega arith
-text-some event_is.Exception = omega arith
-text-some (event_is.CharRead bytes) = omega arith
-text-some (event_is.Block id ok) = omega arith
-text-some (event_is.Net bytes) = omega arith
-text-some (event_is.Clock value) = omega arith
-text-some (event_is.Checkpoint idle) = omega arith
-text-some (event_is.End reason code) = omega arith
+text-some e = omega arith
 
 -- ---- the steps of a run
 

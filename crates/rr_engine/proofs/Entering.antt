@@ -13,13 +13,15 @@ use Rattle.board.specs.Taken.{out_alone}
 use Rattle.board.specs.State.{State}
 use Rattle.board.specs.Runs.{step}
 use Rattle.board.specs.Accept.{accept}
-use Rattle.rr_engine.specs.declared.parts.Break.{Break}
-use Rattle.rr_engine.specs.declared.parts.Break.TheVariants.{ConsoleRead, ConsoleWrite, LogWrite, NoMemory}
+use Rattle.rr_engine.specs.declared.ends.Break.{Break}
+use Rattle.rr_engine.specs.declared.ends.Break.TheVariants.{ConsoleRead, ConsoleWrite, LogWrite, NoMemory}
 use Rattle.rr_engine.specs.Stand.{Stand}
 use Rattle.rr_engine.specs.Input.{Extent, Entire, Part}
 use Rattle.rr_engine.specs.Feed.{Feed}
 use Rattle.rr_engine.specs.Windows.{Remainder, Unreceived, Left, nothing_left, Hears}
-use Rattle.rr_engine.specs.Recording.{clock_value, clock_values, Appended, Gave, Recorded, Goes, Notes, Enters}
+use Rattle.rr_engine.specs.Recording.{clock_value, clock_values, Gave, Recorded, Goes}
+use Rattle.rr_engine.specs.Outputs.{Appended, Notes}
+use Rattle.rr_engine.specs.Owed.{Enters}
 use Rattle.rr_engine.proofs.Feeding.{hears-none, unfailed-same}
 use Rattle.rr_engine.proofs.Joining.{run-none, run-one}
 
@@ -257,9 +259,4 @@ had-input p (event.Block id ok) more b is = record {
   value = Takes-refl p.gave;
   hears = (more, b, p.feed, (refl, refl, refl), (refl, refl, refl));
 }
-had-input p (event.Instruction n) more b is = absurd is
-had-input p event.Interrupt more b is = absurd is
-had-input p event.Exception more b is = absurd is
-had-input p (event.Clock value) more b is = absurd is
-had-input p (event.Checkpoint idle) more b is = absurd is
-had-input p (event.End reason code) more b is = absurd is
+had-input p e more b is = absurd is

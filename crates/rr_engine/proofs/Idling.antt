@@ -25,7 +25,7 @@ use Rattle.board.specs.Turn.{attempt, settle, turn, turn_closed}
 use Rattle.board.specs.Runs.{is_run, after, step}
 use Rattle.board.proofs.Counting.{close-keeps}
 use Rattle.board.proofs.Effects.{effect_of}
-use Rattle.rr_engine.specs.Recording.{IsOwn}
+use Rattle.rr_engine.specs.Owed.{IsOwn}
 use Rattle.rr_engine.specs.Work.{is_restless, work}
 use Rattle.rr_engine.proofs.Owing.{own-still, end-silent}
 use Rattle.rr_engine.proofs.Entering.{IsPlain}

@@ -14,13 +14,14 @@ use Rattle.board.specs.Runs.{step, run}
 use Rattle.board.specs.Taken.{Taken, out_alone, joined, with_taken, map_taken}
 use Rattle.board.proofs.TakenLaws.{run-with}
 pub use Rattle.log_order.proofs.Following.{some_state, some_is, then-more}
-use Rattle.rr_engine.specs.declared.parts.Break.{Break}
-use Rattle.rr_engine.specs.declared.parts.Break.TheVariants.{ConsoleRead, ConsoleWrite, LogWrite, NoMemory}
+use Rattle.rr_engine.specs.declared.ends.Break.{Break}
+use Rattle.rr_engine.specs.declared.ends.Break.TheVariants.{ConsoleRead, ConsoleWrite, LogWrite, NoMemory}
 use Rattle.rr_engine.specs.Stand.{Stand}
 use Rattle.rr_engine.specs.Input.{Extent, Entire, Part}
 use Rattle.rr_engine.specs.Feed.{Feed}
 use Rattle.rr_engine.specs.Windows.{Remainder, Hears}
-use Rattle.rr_engine.specs.Recording.{clock_value, clock_values, Took, Appended, Logged, Gave, Counted, Steady, Recorded, IsLogged, Broke, Goes}
+use Rattle.rr_engine.specs.Recording.{clock_value, clock_values, Took, Logged, Gave, Counted, Steady, Recorded, IsLogged, Broke, Goes}
+use Rattle.rr_engine.specs.Outputs.{Appended}
 use Rattle.rr_engine.proofs.Feeding.{hears-then, hears-none, unfailed-same, unfailed-then, failed-after}
 
 -- ---- runs

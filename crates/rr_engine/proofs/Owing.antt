@@ -15,11 +15,11 @@ use Rattle.board.specs.Accept.{takes_input}
 use Rattle.board.specs.Runs.{step}
 use Rattle.board.specs.Effect.{Effect, levelled, IsNoTurn}
 use Rattle.board.specs.Effect as by
-use Rattle.board.specs.Answers.{IsDue}
+use Rattle.board.specs.Bounds.{IsDue}
 use Rattle.board.proofs.UartHeld.{close_uart}
 use Rattle.board.proofs.Counting.{close-keeps}
 use Rattle.board.proofs.Effects.{effect_steps, effect_of}
-use Rattle.rr_engine.specs.Recording.{IsOwed, IsOwn}
+use Rattle.rr_engine.specs.Owed.{IsOwed, IsOwn}
 
 -- an event that has an effect is accepted
 owed : (g k : State) (e : Event) → IsEvent e → Effect g e k → IsOwed g e

@@ -6,8 +6,8 @@ use Rattle.outside.specs.Causes.{Rose}
 use Rattle.event_log.specs.declared.event.Event.{Event}
 use Rattle.io_workers.specs.Intake.{Intake}
 use Rattle.io_workers.specs.declared.read_error.ReadError.TheVariants as error
-use Rattle.rr_engine.specs.declared.parts.Break.{Break}
-use Rattle.rr_engine.specs.declared.parts.Break.TheVariants.{ConsoleRead, ConsoleWrite, LogWrite, NoMemory}
+use Rattle.rr_engine.specs.declared.ends.Break.{Break}
+use Rattle.rr_engine.specs.declared.ends.Break.TheVariants.{ConsoleRead, ConsoleWrite, LogWrite, NoMemory}
 use Rattle.rr_engine.specs.declared.inputs.Trouble.{Trouble}
 use Rattle.rr_engine.specs.declared.inputs.Trouble.TheVariants as trouble_is
 use Rattle.rr_engine.specs.Stand.{Stand}

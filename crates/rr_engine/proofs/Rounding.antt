@@ -10,15 +10,15 @@ use Rattle.event_log.specs.Spelling.{text, IsEvent}
 use Rattle.uart16550.specs.Line.{Line}
 use Rattle.board.specs.State.{State}
 use Rattle.board.specs.Runs.{step, after}
-use Rattle.board.specs.Answers.{Counts, IsDue}
+use Rattle.board.specs.Bounds.{Counts, IsDue}
 use Rattle.board.specs.declared.control.Ending.{Ending}
 use Rattle.board.specs.declared.control.Window.TheVariants as window
 use Rattle.board.specs.declared.due.Due.TheVariants as due_is
 use Rattle.board.specs.Accept.{takes_input}
 use Rattle.board.specs.Due.{due}
 use Rattle.board.specs.Taken.{without_out}
-use Rattle.rr_engine.specs.declared.parts.Break.{Break}
-use Rattle.rr_engine.specs.declared.parts.Break.TheVariants.{ConsoleRead, ConsoleWrite, LogWrite, NoMemory}
+use Rattle.rr_engine.specs.declared.ends.Break.{Break}
+use Rattle.rr_engine.specs.declared.ends.Break.TheVariants.{ConsoleRead, ConsoleWrite, LogWrite, NoMemory}
 use Rattle.rr_engine.specs.declared.recorder.Recorder.{Recorder}
 use Rattle.rr_engine.specs.Feed.{Feed, Source, IsOver, IsSound}
 use Rattle.rr_engine.specs.Windows.{Unreceived, nothing_left}
@@ -26,7 +26,9 @@ use Rattle.rr_engine.specs.Stand.{Stand, Devices, stand}
 use Rattle.io_workers.specs.Intake.{Intake}
 use Rattle.rr_engine.specs.Work.{work, work_left, FallsBy, Falls}
 use Rattle.rr_engine.specs.Rounds.{GoesOn, Rounds}
-use Rattle.rr_engine.specs.Recording.{Goes, Enters, Notes, Shows, IsOwed, IsOwn, IsOwnEnd, EndsByItself, Rests, clock_value}
+use Rattle.rr_engine.specs.Recording.{Goes, clock_value}
+use Rattle.rr_engine.specs.Owed.{Enters, IsOwed, IsOwn, IsOwnEnd, EndsByItself, Rests}
+use Rattle.rr_engine.specs.Outputs.{Notes, Shows}
 use Rattle.rr_engine.proofs.Joining.{goes-then, broken-to}
 use Rattle.rr_engine.proofs.Owing.{owes_end}
 use Rattle.rr_engine.proofs.Stopping.{shown, shown-machine, due-without}

@@ -14,13 +14,15 @@ use Rattle.board.specs.Due.{due}
 use Rattle.board.specs.declared.due.Due.TheVariants as due_is
 use Rattle.board.proofs.TakenLaws.{due-with}
 use Rattle.board.specs.Taken.{out_alone, joined, with_taken, without_out}
-use Rattle.rr_engine.specs.declared.parts.Break.{Break}
-use Rattle.rr_engine.specs.declared.parts.Break.TheVariants.{ConsoleRead, ConsoleWrite, LogWrite, NoMemory}
+use Rattle.rr_engine.specs.declared.ends.Break.{Break}
+use Rattle.rr_engine.specs.declared.ends.Break.TheVariants.{ConsoleRead, ConsoleWrite, LogWrite, NoMemory}
 use Rattle.rr_engine.specs.Stand.{Stand}
 use Rattle.rr_engine.specs.Input.{Extent, Entire, Part}
 use Rattle.rr_engine.specs.Feed.{Feed, Unfailed}
 use Rattle.rr_engine.specs.Windows.{Remainder, Left, nothing_left, Hears}
-use Rattle.rr_engine.specs.Recording.{clock_value, clock_values, Gave, Recorded, Goes, Notes, Shows, Flushed, Stopped, IsStopped, IsLogged, Stops, Enters, Sent, Rests, or_memory}
+use Rattle.rr_engine.specs.Recording.{clock_value, clock_values, Gave, Recorded, Goes, Stopped, IsStopped, IsLogged, Stops, or_memory}
+use Rattle.rr_engine.specs.Outputs.{Notes, Shows, Flushed, Sent}
+use Rattle.rr_engine.specs.Owed.{Enters, Rests}
 use Rattle.rr_engine.proofs.Feeding.{hears-none, unfailed-same, same-unfailed}
 use Rattle.rr_engine.proofs.Joining.{some_state, run-none, run-one, run-behind, appended-none, gave-none}
 use Rattle.rr_engine.proofs.Entering.{rest-of}

@@ -14,8 +14,8 @@ use Rattle.board.specs.Runs.{step}
 use Rattle.io_workers.specs.Intake.{Intake, Progress}
 use Rattle.io_workers.specs.declared.read_error.ReadError.TheVariants as error
 use Rattle.board.specs.declared.control.Ending.{Ending}
-use Rattle.rr_engine.specs.declared.parts.Break.{Break}
-use Rattle.rr_engine.specs.declared.parts.Break.TheVariants.{ConsoleRead, NoMemory}
+use Rattle.rr_engine.specs.declared.ends.Break.{Break}
+use Rattle.rr_engine.specs.declared.ends.Break.TheVariants.{ConsoleRead, NoMemory}
 use Rattle.rr_engine.specs.declared.recorder.Recorder.{Recorder}
 use Rattle.rr_engine.specs.Stand.{Stand, Devices, stand}
 use Rattle.rr_engine.specs.Work.{work, FallsBy, Falls}
@@ -24,7 +24,8 @@ use Rattle.rr_engine.specs.declared.inputs.Trouble.{Trouble}
 use Rattle.rr_engine.specs.declared.inputs.Trouble.TheVariants as trouble_is
 use Rattle.rr_engine.specs.Feed.{Feed, Source, IsInput, IsOver, IsSound, Receives, event_of_item}
 use Rattle.rr_engine.specs.Windows.{Remainder, Unreceived, Left, nothing_left}
-use Rattle.rr_engine.specs.Recording.{Recorded, Goes, Enters, IsOwed, Rests, Stops, or_memory}
+use Rattle.rr_engine.specs.Recording.{Recorded, Goes, Stops, or_memory}
+use Rattle.rr_engine.specs.Owed.{Enters, IsOwed, Rests}
 use Rattle.rr_engine.specs.Rounds.{Fills, TookIn}
 use Rattle.rr_engine.proofs.Receiving.{with_feed, receives-unfailed, received-entire, received-breaks, received-no-more, received-stops}
 use Rattle.rr_engine.proofs.Hearing.{ends-count}

@@ -16,14 +16,16 @@ use Rattle.board.specs.State.{State}
 use Rattle.board.specs.declared.config.Config.{Config}
 use Rattle.board.specs.Reset.{reset}
 use Rattle.elf_load.specs.declared.pieces.Loaded.{Loaded}
-use Rattle.rr_engine.specs.declared.parts.RunEnd.{RunEnd}
+use Rattle.rr_engine.specs.declared.ends.RunEnd.{RunEnd}
 use Rattle.board.specs.Taken.{Taken, with_taken}
 use Rattle.board.proofs.TakenLaws.{due-with}
-use Rattle.rr_engine.specs.declared.parts.Break.{Break}
-use Rattle.rr_engine.specs.declared.parts.Break.TheVariants.{ConsoleRead, ConsoleWrite, LogWrite, NoMemory}
-use Rattle.rr_engine.specs.declared.parts.RunEnd.TheVariants as ends
+use Rattle.rr_engine.specs.declared.ends.Break.{Break}
+use Rattle.rr_engine.specs.declared.ends.Break.TheVariants.{ConsoleRead, ConsoleWrite, LogWrite, NoMemory}
+use Rattle.rr_engine.specs.declared.ends.RunEnd.TheVariants as ends
 use Rattle.rr_engine.specs.Stand.{Stand, Devices}
-use Rattle.rr_engine.specs.Recording.{clock_values, Gave, IsStopped, Recorded, IsLogged, Broke, Goes, Took, Sent, Rests, end_of}
+use Rattle.rr_engine.specs.Recording.{clock_values, Gave, IsStopped, Recorded, IsLogged, Broke, Goes, Took, end_of}
+use Rattle.rr_engine.specs.Outputs.{Sent}
+use Rattle.rr_engine.specs.Owed.{Rests}
 use Rattle.rr_engine.specs.Input.{Extent, Entire, Part, Paid, typed, unread, Heard, Read}
 use Rattle.rr_engine.specs.Feed.{Feed, Source, IsOver, IsSound, Unfailed, Failed}
 use Rattle.rr_engine.specs.Windows.{Remainder, nothing_left, Hears}

@@ -2,6 +2,8 @@ pub mod Input
 pub mod Feed
 pub mod Windows
 pub mod Stand
+pub mod Outputs
+pub mod Owed
 pub mod Recording
 pub mod Work
 pub mod Rounds

@@ -17,13 +17,14 @@ use Rattle.board.specs.declared.control.Ending.{Ending}
 use Rattle.board.specs.declared.control.Window.TheVariants as window
 use Rattle.event_log.specs.declared.stream_error.StreamError.{StreamError}
 use Rattle.event_log.specs.declared.stream_error.StreamError.TheVariants as stream
-use Rattle.rr_engine.specs.declared.parts.RunEnd.{RunEnd}
-use Rattle.rr_engine.specs.declared.parts.RunEnd.TheVariants as ends
-use Rattle.rr_engine.specs.declared.parts.Break.{Break}
-use Rattle.rr_engine.specs.declared.parts.Break.TheVariants.{ConsoleRead, ConsoleWrite, LogWrite, NoMemory}
+use Rattle.rr_engine.specs.declared.ends.RunEnd.{RunEnd}
+use Rattle.rr_engine.specs.declared.ends.RunEnd.TheVariants as ends
+use Rattle.rr_engine.specs.declared.ends.Break.{Break}
+use Rattle.rr_engine.specs.declared.ends.Break.TheVariants.{ConsoleRead, ConsoleWrite, LogWrite, NoMemory}
 use Rattle.rr_engine.specs.Stand.{Stand}
 use Rattle.rr_engine.specs.Input.{Extent, Entire, Part}
 use Rattle.rr_engine.specs.Feed.{Feed, IsOver, IsSound, Unfailed, Failed}
+use Rattle.rr_engine.specs.Outputs.{Appended}
 use Rattle.rr_engine.specs.Windows.{Remainder, nothing_left, Hears}
 
 -- the value of a CLOCK event
@@ -40,13 +41,6 @@ clock_values (e ∷ es) = clock_value e ++ clock_values es
 abbrev pub Took : Extent → Option (List ℕ) → Option (List ℕ) → List ℕ → Type 0
 Took Entire old new bytes = Takes old new bytes
 Took Part old new bytes = TakesFront old new bytes
-
--- these bytes joined the log: what was written and what is held are what was held and these
-pub record Appended (old new : Writer) (bytes : List ℕ) : Type 0 where
-  pub written : List ℕ
-  pub taken : Takes old.taken new.taken written
-  pub whole : written ++ new.unsent.held ≡ old.unsent.held ++ bytes
-  pub works : new.unsent.failed ≡ false
 
 -- the same, or where the recording broke off, a front of what was held and these was written
 abbrev pub Logged : Extent → Writer → Writer → List ℕ → Type 0
@@ -134,46 +128,6 @@ abbrev pub Goes : Remainder → Remainder → Stand → Stand → Result (Unit {
 Goes before after p q (Ok done) = Recorded Entire before after p q
 Goes before after p q (Err broke) = Recorded Part before after p q × Broke before p q broke
 
--- an event that the machine accepts now
-pub record IsOwed (g : State) (e : Event) : Type 0 where
-  pub spelled : IsEvent e
-  pub after : State
-  pub steps : step g e ≡ Some after
-
--- the log got these bytes, or its sink failed, or memory was refused; nothing else changed
-abbrev pub Notes : Stand → Stand → List ℕ → Result (Unit {0}) Break → Type 0
-Notes p q bytes (Ok done) =
-    Appended p.log q.log bytes × (q ≡ record p { log = q.log })
-    × (q.log.faults ≡ p.log.faults)
-Notes p q bytes (Err LogWrite) =
-    TakesFront p.log.taken q.log.taken (p.log.unsent.held ++ bytes)
-    × (q ≡ record p { log = q.log }) × Rose p.log.faults q.log.faults
-Notes p q bytes (Err NoMemory) = q ≡ p
-Notes p q bytes (Err ConsoleRead) = ⊥
-Notes p q bytes (Err ConsoleWrite) = ⊥
-
--- the console took the bytes that weren't taken yet, or its sink failed where some are; nothing
--- else changed
-abbrev pub Shows : Stand → Stand → Result (Unit {0}) Break → Type 0
-Shows p q (Ok done) =
-    Takes p.console q.console p.machine.devices.uart.out
-    × (q ≡ record p { machine = without_out p.machine; console = q.console })
-Shows p q (Err ConsoleWrite) =
-    TakesFront p.console q.console p.machine.devices.uart.out
-    × (q ≡ record p {
-      machine = without_out p.machine;
-      console = q.console;
-      console_faults = q.console_faults;
-    })
-    × Rose p.console_faults q.console_faults
-    × (p.machine.devices.uart.out ≢ [])
-Shows p q (Err other) = ⊥
-
--- what was held of the log was written, or a front of it; nothing else changed
-pub record Flushed (p q : Stand) : Type 0 where
-  pub front : TakesFront p.log.taken q.log.taken p.log.unsent.held
-  pub rest : q ≡ record p { log = q.log }
-
 -- the recording was stopped: no more console bytes came, and the log has a front of what was
 -- recorded
 pub record Stopped (before : Remainder) (p q : Stand) : Type 0 where
@@ -199,67 +153,6 @@ Stops shown before p q (Err LogWrite) = Stopped before p q × Rose p.log.faults 
 Stops shown before p q (Err NoMemory) = Stopped before p q
 Stops shown before p q (Err ConsoleRead) = ⊥
 Stops shown before p q (Err ConsoleWrite) = ⊥
-
--- The machine took the event and the log got it, as far as its sink took it; or memory was refused
--- before, and all is as it was.
-abbrev pub Enters : Stand → Stand → Event → Result (Unit {0}) Break → Type 0
-Enters p q e result =
-    ((result ≡ Err NoMemory) × (q ≡ p))
-    ⊎ ((step p.machine e ≡ Some q.machine)
-    × Notes (record p { machine = q.machine }) q (text e) result)
-
--- the run goes on; or it ended by the guest, for want of a wake or at its budget, with all console
--- bytes taken
-abbrev pub HasOwnEnding : Option Ending → List ℕ → Type 0
-HasOwnEnding None out = Unit {0}
-HasOwnEnding (Some ending) out =
-    (ending.reason ≤ 2) × (1 ≤ ending.reason → ending.code ≡ 0) × (out ≡ [])
-
-abbrev pub EndsByItself : State → Type 0
-EndsByItself g = HasOwnEnding g.control.ended g.devices.uart.out
-
--- A recording that may go on, or ended by itself. An idle window that had no event stands only
--- where the console has all bytes and no input is left to come, and so does an end for want of a
--- wake.
-pub record Rests (p : Stand) : Type 0 where
-  pub own : EndsByItself p.machine
-  pub silent : p.machine.control.window ≡ window.Idle false → p.machine.devices.uart.out ≡ []
-  pub idle : p.machine.control.window ≡ window.Idle false → IsOver p.feed
-  pub wakeless : (code : ℕ)
-      → p.machine.control.ended ≡ Some (record { reason = 1; code = code }) → IsOver p.feed
-  pub sound : IsSound p.feed
-
--- an event of the machine's own, without input and without a turn
-abbrev pub IsOwn : Event → Type 0
-IsOwn (event.Instruction count) = ⊥
-IsOwn (event.CharRead bytes) = ⊥
-IsOwn (event.Block id ok) = ⊥
-IsOwn (event.Net packet) = ⊥
-IsOwn other = Unit {0}
-
--- an END that the machine may enter by itself
-abbrev pub IsOwnEnd : State → Event → Type 0
-IsOwnEnd g (event.End reason code) =
-    (reason ≤ 2) × (1 ≤ reason → code ≡ 0) × (g.devices.uart.out ≡ [])
-IsOwnEnd g other = Unit {0}
-
--- these bytes were written to the log at once, or its sink failed, or memory was refused
-abbrev pub Sent : Stand → Stand → List ℕ → Result (Unit {0}) Break → Type 0
-Sent p q bytes (Ok done) =
-    Takes p.log.taken q.log.taken bytes × (q ≡ record p { log = q.log })
-    × (q.log.faults ≡ p.log.faults) × (q.log.unsent.failed ≡ false)
-Sent p q bytes (Err LogWrite) =
-    TakesFront p.log.taken q.log.taken bytes × (q ≡ record p { log = q.log })
-    × Rose p.log.faults q.log.faults
-Sent p q bytes (Err NoMemory) = q ≡ p
-Sent p q bytes (Err ConsoleRead) = ⊥
-Sent p q bytes (Err ConsoleWrite) = ⊥
-
--- what a write to the log came to
-abbrev pub sent_of : Result (Unit {0}) StreamError → Result (Unit {0}) Break
-sent_of (Ok done) = Ok done
-sent_of (Err stream.NoMemory) = Err NoMemory
-sent_of (Err other) = Err LogWrite
 
 -- how a recording that broke off ended
 abbrev pub end_of : Break → RunEnd

@@ -3,10 +3,11 @@ use Rattle.std.specs.Prelude.{◌≡◌, ◌⊎◌, ℕ, ◌+◌, ◌*◌, ◌�
 use Rattle.plain_hub.specs.declared.item.Item.{Item}
 use Rattle.board.specs.Accept.{takes_input}
 use Rattle.board.specs.declared.control.Window.TheVariants as window
-use Rattle.rr_engine.specs.declared.parts.Break.{Break}
+use Rattle.rr_engine.specs.declared.ends.Break.{Break}
 use Rattle.rr_engine.specs.Windows.{Remainder, Unreceived, nothing_left}
 use Rattle.rr_engine.specs.Stand.{Stand}
-use Rattle.rr_engine.specs.Recording.{Goes, Rests}
+use Rattle.rr_engine.specs.Recording.{Goes}
+use Rattle.rr_engine.specs.Owed.{Rests}
 use Rattle.rr_engine.specs.Work.{work, Falls}
 
 -- a recording that goes on: its log's sink works, and its run hasn't ended

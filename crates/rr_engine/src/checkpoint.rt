@@ -2,7 +2,7 @@
 
 ghost use Rattle.std.specs.Prelude.{◌≡◌, OnOk, OnErr, [], Bool, true, false, All, map, if◌then◌else◌};
 ghost use Rattle.board.specs.Accept.{takes_input};
-ghost use Rattle.board.specs.Answers.{Counts, IsDue};
+ghost use Rattle.board.specs.Bounds.{Counts, IsDue};
 ghost use Rattle.board.specs.Due.{due};
 ghost use Rattle.board.specs.declared.control.Window.TheVariants as Window;
 ghost use Rattle.rr_engine.specs.Stand.{stand};
@@ -12,8 +12,9 @@ ghost use Rattle.rr_engine.specs.Windows.{Remainder, Left};
 ghost use Rattle.rr_engine.specs.Recording.{Goes, Stops};
 ghost use Rattle.rr_engine.specs.Rounds.{GoesOn, Rounds, Fills, TookIn};
 
+use crate::ends::Break;
 use crate::inputs::{Inputs, Received, Trouble, event_of};
-use crate::parts::{Break, RecordParts};
+use crate::parts::RecordParts;
 use crate::recorder::Recorder;
 use board::Due;
 use event_log::Event;

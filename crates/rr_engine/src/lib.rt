@@ -2,6 +2,7 @@
 #![tactic(auto)]
 
 mod checkpoint;
+mod ends;
 mod inputs;
 mod laws;
 mod parts;
@@ -13,7 +14,8 @@ mod rounds;
 #[cfg(test)]
 mod tests;
 
+pub use ends::RunEnd;
 pub use laws::recorded_log_is_replayable;
-pub use parts::{RecordParts, RunEnd};
+pub use parts::RecordParts;
 pub use recording::record_one;
 pub use replaying::{ReplayEnd, replay_one};

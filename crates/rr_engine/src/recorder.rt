@@ -4,10 +4,12 @@ ghost use Rattle.std.specs.Prelude.{◌≡◌, false};
 ghost use Rattle.event_log.specs.Spelling.{text, IsEvent};
 ghost use Rattle.rr_engine.specs.Stand.{stand};
 ghost use Rattle.board.specs.Effect.{IsNoTurn};
-ghost use Rattle.rr_engine.specs.Recording.{IsOwed, Enters, Notes, Shows};
+ghost use Rattle.rr_engine.specs.Owed.{IsOwed, Enters};
+ghost use Rattle.rr_engine.specs.Outputs.{Notes, Shows};
 
+use crate::ends::Break;
 use crate::inputs::Inputs;
-use crate::parts::{Break, RecordParts};
+use crate::parts::RecordParts;
 use board::{AcceptError, Machine};
 use event_log::{Event, StreamError, WriteBehind};
 use outside::{HostClock, Sink, Source};

@@ -8,11 +8,12 @@ ghost use Rattle.io_workers.specs.Intake.{none_given};
 ghost use Rattle.board.specs.Reset.{start_of};
 ghost use Rattle.board.specs.declared.control.Window.TheVariants as Window;
 ghost use Rattle.rr_engine.specs.Stand.{stand};
-ghost use Rattle.rr_engine.specs.Recording.{Sent, sent_of};
+ghost use Rattle.rr_engine.specs.Outputs.{Sent, sent_of};
 ghost use Rattle.rr_engine.specs.Runs.{Records, run_end_of};
 
+use crate::ends::{Break, RunEnd};
 use crate::inputs::Inputs;
-use crate::parts::{Break, RecordParts, RunEnd};
+use crate::parts::RecordParts;
 use crate::recorder::Recorder;
 use board::{Config, Ending, Machine, Steps};
 use elf_load::Loaded;

@@ -2,15 +2,17 @@
 
 ghost use Rattle.std.specs.Prelude.{◌≡◌, OnOk, IsSome, false};
 ghost use Rattle.board.specs.Due.{due};
-ghost use Rattle.board.specs.Answers.{Counts};
+ghost use Rattle.board.specs.Bounds.{Counts};
 ghost use Rattle.rr_engine.specs.Feed.{source_feed};
 ghost use Rattle.rr_engine.specs.Windows.{nothing_left};
 ghost use Rattle.rr_engine.specs.Stand.{stand};
-ghost use Rattle.rr_engine.specs.Recording.{Goes, Rests};
+ghost use Rattle.rr_engine.specs.Recording.{Goes};
+ghost use Rattle.rr_engine.specs.Owed.{Rests};
 ghost use Rattle.rr_engine.specs.Rounds.{GoesOn, Rounds};
 
+use crate::ends::Break;
 use crate::inputs::Inputs;
-use crate::parts::{Break, RecordParts};
+use crate::parts::RecordParts;
 use crate::recorder::Recorder;
 use board::{Due, Steps};
 use event_log::Event;

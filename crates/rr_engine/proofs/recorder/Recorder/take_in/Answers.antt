@@ -2,7 +2,7 @@ use Rattle.std.proofs.Common.{sym, subst}
 use Rattle.std.specs.Prelude.{Ok, Err}
 use Rattle.event_log.specs.declared.event.Event.{Event}
 use Rattle.rr_engine.specs.Stand.{stand}
-use Rattle.rr_engine.specs.Recording.{IsOwed, Enters}
+use Rattle.rr_engine.specs.Owed.{IsOwed, Enters}
 use Rattle.rr_engine.proofs.Taking.{taking-starts, taking-input, taking-more, taking-breaks, taking-some, owes-input}
 use Rattle.rr_engine.proofs.recorder.Recorder.take_in.Goals as goal
 

@@ -3,7 +3,8 @@ use Rattle.rr_engine.specs.Input.{Entire}
 use Rattle.rr_engine.specs.Feed.{source_feed}
 use Rattle.rr_engine.specs.Windows.{nothing_left}
 use Rattle.rr_engine.specs.Stand.{stand}
-use Rattle.rr_engine.specs.Recording.{Recorded, Rests}
+use Rattle.rr_engine.specs.Recording.{Recorded}
+use Rattle.rr_engine.specs.Owed.{Rests}
 use Rattle.rr_engine.specs.Work.{work_left}
 use Rattle.rr_engine.proofs.rounds.Recorder+Pieces.run.Given as goal
 
