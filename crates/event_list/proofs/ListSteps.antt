@@ -29,7 +29,7 @@ use Rattle.event_list.proofs.Told.{told-then, told-both, told-any, told-behind, 
 
 -- ---- one event more
 
-one-end-more : (es : List Event) (e : Event) → EndIsLast es → ended es ≡ false
+pub one-end-more : (es : List Event) (e : Event) → EndIsLast es → ended es ≡ false
     → EndIsLast (es ++ e ∷ [])
 unfolding EndIsLast ended
 one-end-more [] e one going = tt
@@ -42,12 +42,12 @@ ended-more [] e = refl
 ended-more (d ∷ []) e = refl
 ended-more (d ∷ f ∷ es) e = ended-more (f ∷ es) e
 
-all-more : (es : List Event) (e : Event) → AllByRecursion IsEvent es → IsEvent e
+pub all-more : (es : List Event) (e : Event) → AllByRecursion IsEvent es → IsEvent e
     → AllByRecursion IsEvent (es ++ e ∷ [])
 all-more [] e all is = (is, tt)
 all-more (d ∷ es) e all is = (all.0, all-more es e all.1 is)
 
-lines-more : (es : List Event) (e : Event) (i at : ℕ)
+pub lines-more : (es : List Event) (e : Event) (i at : ℕ)
     → lines_from i at (es ++ e ∷ [])
     ≡ lines_from i at es ++ event_line (i + length es) (at + length (texts es)) e
 unfolding lines_from

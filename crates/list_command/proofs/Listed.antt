@@ -19,7 +19,7 @@ use Rattle.event_list.specs.declared.listing.ListEnd.{ListEnd}
 use Rattle.event_list.specs.declared.listing.ListEnd.TheVariants.{Whole, Refused, LogRead, LogTooLong, WriteFault, NoMemory}
 use Rattle.event_list.specs.Texts.{event_line, event_lines}
 use Rattle.event_list.specs.Listing.{Listed, Begins, IsWrongAt, IsPastLimit, ended, behind, StartsWith, Unfaulted, ListsFront, ListsTo}
-use Rattle.list_command.proofs.More.{one-end-more, all-more, lines-more}
+use Rattle.event_list.proofs.ListSteps.{one-end-more, all-more, lines-more}
 use Rattle.log_order.specs.declared.refusal.Refusal.{Refusal}
 use Rattle.run_files.specs.Headers.{HasHeader}
 use Rattle.commands.specs.Faults.{Fault, fault_of}
