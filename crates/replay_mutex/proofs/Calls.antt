@@ -1,5 +1,5 @@
 -- The entries of one pass, and beginnings of histories.
-use Rattle.std.proofs.Common.{◌≡◌, ◌≢◌, ℕ, zero, suc, List, [], ◌∷◌, ◌++◌, length, drop, set, Bool, true, false, true≢false, ◌||◌, ◌==◌, refl, sym, ap, ◌∙◌, eq-eqb, ne_eqb, append_assoc}
+use Rattle.std.proofs.Common.{◌≡◌, ◌≢◌, ℕ, zero, suc, List, [], ◌∷◌, ◌++◌, length, drop, set, Bool, true, false, true≢false, ◌||◌, ◌==◌, refl, sym, ap, ◌∙◌, ◌⊎◌, Option, Some, None, inl, inr, ⊎_elim, eq-eqb, ne_eqb, append_assoc, append-nil}
 use Rattle.std.specs.Prelude.{if◌then◌else◌}
 use mathlib.Core.Option.{some, some-injective, some-ne-none}
 use lib.ListN.{get_elem?}
@@ -20,17 +20,9 @@ calls_by-own p xs e is = calls_by-append p xs (e ∷ []) ∙ ap (λ (b : Bool). 
 
 pub calls_by-other : (p : ℕ) (xs : List Entry) (e : Entry) → e.pass ≢ p → calls_by p (xs ++ e ∷ []) ≡ calls_by p xs
 calls_by-other p xs e ne = calls_by-append p xs (e ∷ []) ∙ ap (λ (b : Bool). calls_by p xs ++ (if b then e ∷ [] else [])) (ne_eqb e.pass p ne) ∙ append-nil (calls_by p xs)
-  where
-    append-nil : (l : List Entry) → l ++ [] ≡ l
-    append-nil [] = refl
-    append-nil (x ∷ l) = ap (λ m. x ∷ m) (append-nil l)
 
 pub starts_again : (xs : List Entry) → StartsWith xs xs
-starts_again xs = ([], nil xs)
-  where
-    nil : (l : List Entry) → l ≡ l ++ []
-    nil [] = refl
-    nil (x ∷ l) = ap (λ m. x ∷ m) (nil l)
+starts_again xs = ([], sym (append-nil xs))
 
 pub starts_trans : (xs ys zs : List Entry) → StartsWith xs ys → StartsWith ys zs → StartsWith xs zs
 starts_trans xs ys zs a b = (b.0 ++ a.0, a.1 ∙ ap (λ l. l ++ a.0) b.1 ∙ append_assoc zs b.0 a.0)
@@ -53,3 +45,15 @@ set_mine (x ∷ l) (suc i) a b e = set_mine l i a b e
 pub dropped : (h : List Entry) (more : List Entry) → drop (length h) (h ++ more) ≡ more
 dropped [] more = refl
 dropped (x ∷ h) more = dropped h more
+
+-- a list with one more has at each place what it had, or the last
+pub at_end : {A : Type 0} (l : List A) (a b : A) (j : ℕ) → get_elem? (l ++ a ∷ []) j ≡ some b
+    → (get_elem? l j ≡ some b) ⊎ ((j ≡ length l) × (a ≡ b))
+at_end [] a b zero e = inr (refl, some-injective a b e)
+at_end [] a b (suc j) e = absurd (some-ne-none b (sym e))
+at_end (x ∷ xs) a b zero e = inl e
+at_end (x ∷ xs) a b (suc j) e =
+    ⊎_elim (λ t. inl t) (λ t. inr (ap suc t.0, t.1)) (at_end xs a b j e)
+
+pub none_is_not : (o : Option (List Entry)) (x : List Entry) → o ≡ None → o ≡ Some x → ⊥
+none_is_not o x e f = cc

@@ -1,7 +1,6 @@
 -- Where all passes were taken in, the hub is home, and its history is that of all passes.
 use Rattle.std.proofs.Common.{◌≡◌, ◌≢◌, ◌⊎◌, ℕ, zero, suc, ◌<◌, ◌≤◌, List, [], ◌∷◌, ◌++◌, length, Bool, true, false, true≢false, ◌||◌, ◌==◌, None, Some, refl, sym, ap, ◌∙◌, subst, inl, inr, ⊎_elim, arith, eq-eqb, append_assoc}
 use Rattle.std.specs.Prelude.{All}
-use Rattle.std.specs.declared.option.Option.{Option}
 use Rattle.std.proofs.lemmas.Bool.{eqb-true}
 use Rattle.std.proofs.lemmas.List.Elements.{All-cons}
 use mathlib.Core.Option.{some, some-injective, some-ne-none}
@@ -17,6 +16,7 @@ use Rattle.plain_hub.specs.Hub.{Legal}
 use Rattle.plain_hub.specs.Past.{Past, past}
 use Rattle.plain_hub.specs.Proper.{Proper}
 use Rattle.plain_hub.proofs.Contained.{all_head, all_tail, all_init}
+use Rattle.replay_mutex.proofs.Calls.{none_is_not}
 use Rattle.replay_mutex.specs.declared.view.View.{View}
 use Rattle.replay_mutex.specs.declared.view.Joined.{Joined}
 use Rattle.replay_mutex.specs.declared.pass.Pass.{Pass}
@@ -137,9 +137,6 @@ closes id v first ps words slots here number free base made all gone seen mine f
       ),
     )
   where
-    none_is_not : (o : Option (List Entry)) (x : List Entry) → o ≡ None → o ≡ Some x → ⊥
-    none_is_not o x e f = cc
-
     same_view : (views : List View) (i j : ℕ) (x y : View) → j ≡ i → get_elem? views i ≡ some x → get_elem? views j ≡ some y → x ≡ y
     same_view views i j x y same ei ej = some-injective x y (sym ei ∙ subst (λ m. get_elem? views m ≡ some y) same ej)
 

@@ -1,5 +1,5 @@
 -- What a pass knows after a call, and what its own calls tell of the whole history.
-use Rattle.std.proofs.Common.{arith, ◌≡◌, ℕ, ◌+◌, List, [], ◌∷◌, ◌++◌, length, drop, Bool, true, false, ◌==◌, ◌||◌, None, Some, refl, sym, ap, ◌∙◌, subst, ⊎_elim, eq-eqb, append_assoc}
+use Rattle.std.proofs.Common.{arith, ◌≡◌, ℕ, ◌+◌, List, [], ◌∷◌, ◌++◌, length, drop, Bool, true, false, ◌==◌, ◌||◌, None, Some, refl, sym, ap, ◌∙◌, subst, ⊎_elim, eq-eqb, append_assoc, append-nil}
 use Rattle.std.specs.Prelude.{if◌then◌else◌, Contains}
 use Rattle.plain_hub.specs.declared.base.Base.{Base}
 use Rattle.plain_hub.specs.declared.job.Job.{Job}
@@ -21,25 +21,43 @@ use Rattle.replay_mutex.specs.Holding.{Holds}
 use Rattle.replay_mutex.specs.Shown.{issued_by, issued_in, is_stop, has_stop, own, Goes, Makes}
 use Rattle.replay_mutex.proofs.Calls.{calls_by-own, starts_trans, dropped}
 
-pub entered : (v : View) (x n : Sits) (h now : Past) (c : Call) → IsNew v h → x ≡ (knowing v (Some h.entries) v.seen v.mine, (0, None) ∷ []) → now ≡ and_then h v.number c → Legal now.entries
+-- what a pass knows that put the hub back with this call entered, where it has this number
+pub entered : (v : View) (c : Call) {number : ℕ} {x n : Sits} {h now : Past} → IsNew v h
+    → x ≡ (knowing v (Some h.entries) v.seen v.mine, (0, None) ∷ [])
+    → v.number ≡ number → now ≡ and_then h number c → Legal now.entries
     → n ≡ (knowing x.0 None now.entries (x.0.mine ++ drop (length (or_none x.0.noted)) now.entries), [])
     → (n ≡ (knowing v None now.entries (v.mine ++ entry v.number c ∷ []), [])) × Makes v n.0 c
-entered v x n h now c new had is legal has =
+entered v c {number = number} {n = n} {h = h} {now = now} new had by is legal has =
     let e : Entry = entry v.number c in
     let w : View = knowing v None now.entries (v.mine ++ e ∷ []) in
     let m : Sits = (w, []) in
-    let entries : now.entries ≡ h.entries ++ e ∷ [] = ap (λ (q : Past). q.entries) is in
-    let more : drop (length h.entries) now.entries ≡ e ∷ [] = ap (drop (length h.entries)) entries ∙ dropped h.entries (e ∷ []) in
-    let p : n ≡ m = has ∙ (λ i. (knowing (had i).0 None now.entries ((had i).0.mine ++ drop (length (or_none (had i).0.noted)) now.entries), [])) ∙ (λ i. (knowing v None now.entries (v.mine ++ more i), [])) in
-    let mine : calls_by v.number now.entries ≡ v.mine ++ e ∷ [] = ap (calls_by v.number) entries ∙ calls_by-own v.number h.entries e refl ∙ ap (λ l. l ++ e ∷ []) new.1 in
-    let goes : Goes v w = (refl, refl, starts_trans now.entries h.entries v.seen (e ∷ [], entries) new.0, legal, mine) in
+    let entries : now.entries ≡ h.entries ++ e ∷ [] =
+    ap (λ (q : Past). q.entries) is ∙ ap (λ k. h.entries ++ entry k c ∷ []) (sym by) in
+    let more : drop (length h.entries) now.entries ≡ e ∷ [] =
+    ap (drop (length h.entries)) entries ∙ dropped h.entries (e ∷ []) in
+    let p : n ≡ m =
+    has ∙ (λ i. (
+      knowing (had i).0 None now.entries ((had i).0.mine
+          ++ drop (length (or_none (had i).0.noted)) now.entries),
+      [],
+    ))
+    ∙ (λ i. (knowing v None now.entries (v.mine ++ more i), [])) in
+    let mine : calls_by v.number now.entries ≡ v.mine ++ e ∷ [] =
+    ap (calls_by v.number) entries ∙ calls_by-own v.number h.entries e refl
+    ∙ ap (λ l. l ++ e ∷ []) new.1 in
+    let goes : Goes v w =
+    (refl, refl, starts_trans now.entries h.entries v.seen (e ∷ [], entries) new.0, legal, mine) in
     let makes : Makes v w c = (goes, (h.entries, new.0, entries), refl) in
     (p, subst (λ (y : Sits). Makes v y.0 c) (sym p) makes)
 
 -- the pass may put the hub back with one entry more
-pub may_enter : (v : View) (x : Sits) (h now : Past) (c : Call) → v.spent ≡ false → IsNew v h → x ≡ (knowing v (Some h.entries) v.seen v.mine, (0, None) ∷ []) → now ≡ and_then h v.number c
+pub may_enter : (v : View) (c : Call) {number : ℕ} {x : Sits} {h now : Past} → v.spent ≡ false
+    → IsNew v h → x ≡ (knowing v (Some h.entries) v.seen v.mine, (0, None) ∷ [])
+    → v.number ≡ number → now ≡ and_then h number c
     → (q : Past) × (d : Call) × Holds x q × (now ≡ and_then q x.0.number d)
-may_enter v x h now c here new had is = subst (λ (y : Sits). (q : Past) × (d : Call) × Holds y q × (now ≡ and_then q y.0.number d)) (sym had) (h, c, (here, refl, new.3, refl), is)
+may_enter v c {h = h} {now = now} here new had by is =
+    subst (λ (y : Sits). (q : Past) × (d : Call) × Holds y q × (now ≡ and_then q y.0.number d))
+    (sym had) (h, c, (here, refl, new.3, refl), is ∙ ap (λ k. and_then h k c) (sym by))
 
 -- the jobs issued are those that the pass 0 issued
 skipped : (b : Bool) (e : Entry) (es : List Entry) → issued_by e.call ≡ [] → issued_in (if b then e ∷ es else es) ≡ issued_in es
@@ -61,12 +79,8 @@ module _ (s : State) (p : ℕ) (es : List Entry) where
   issued_more (End why) may ih = others (End why) refl refl ih
   issued_more Stop may ih = others Stop refl refl ih
 
-append_nil : (l : List Job) → l ≡ l ++ []
-append_nil [] = refl
-append_nil (x ∷ l) = ap (λ m. x ∷ m) (append_nil l)
-
 issued_from : (s : State) (es : List Entry) → LegalFrom s es → (state_from s es).issued ≡ s.issued ++ issued_in (calls_by 0 es)
-issued_from s [] h = append_nil s.issued
+issued_from s [] h = sym (append-nil s.issued)
 issued_from s (e ∷ es) h = issued_more s e.pass es e.call h.0 (issued_from (after s e.pass e.call) es h.1)
 
 pub issued_own : (h : List Entry) → Legal h → (state_of h).issued ≡ issued_in (calls_by 0 h)
@@ -115,13 +129,18 @@ in_last x [] = in_front x x [] refl
 in_last x (y ∷ xs) = in_rest x y (xs ++ x ∷ []) (in_last x xs)
 
 -- who has claimed a job owes its Done
-pub owed : (v : View) (h now : Past) (j : Job) → IsNew v h → now ≡ and_then h v.number (Claim j) → Legal now.entries → Proper h.base h.entries → Owes (v.mine ++ entry v.number (Claim j) ∷ []) v.number j
-owed v h now j new is legal proper =
-    let e : Entry = entry v.number (Claim j) in
+pub owed : (v : View) (j : Job) {number : ℕ} {h now : Past} → IsNew v h → v.number ≡ number
+    → now ≡ and_then h number (Claim j) → Legal now.entries → Proper h.base h.entries
+    → Owes (v.mine ++ entry v.number (Claim j) ∷ []) v.number j
+owed v j {h = h} {now = now} new by is legal proper =
     let p = v.number in
+    let e : Entry = entry p (Claim j) in
+    let mine : now ≡ and_then h p (Claim j) = is ∙ ap (λ k. and_then h k (Claim j)) (sym by) in
     let t : one_if (j.id == j.id) ≡ 1 = ap one_if (eq-eqb j.id j.id refl) in
-    let none_yet = fresh_claim h.base j.id p (Claim j) h.entries (subst (λ (q : Past). Legal q.entries) is legal) proper t in
-    let b : posts j.id v.mine ≡ posts_by p j.id h.entries = ap (posts j.id) (sym new.1) ∙ posts_own p j.id h.entries in
+    let none_yet = fresh_claim h.base j.id p (Claim j) h.entries
+    (subst (λ (q : Past). Legal q.entries) mine legal) proper t in
+    let b : posts j.id v.mine ≡ posts_by p j.id h.entries =
+    ap (posts j.id) (sym new.1) ∙ posts_own p j.id h.entries in
     let le = posts_by_le p j.id h.entries in
     let d = posts-push j.id v.mine (e ∷ []) in
     (in_last e v.mine, omega arith)
@@ -158,10 +177,14 @@ pub stopped_own : (v : View) (h : Past) → IsNew v h → v.number ≡ 0 → (st
 stopped_own v h new zeroth = stopped_from empty h.entries new.2 ∙ ap has_stop (ap (λ n. calls_by n h.entries) (sym zeroth) ∙ new.1)
 
 -- what a pass knows after an answer without an entry
-pub answered : (v : View) (x n : Sits) (h : Past) → IsNew v h → x ≡ (knowing v (Some h.entries) v.seen v.mine, (0, None) ∷ []) → n ≡ (knowing x.0 None h.entries x.0.mine, []) → Goes v n.0 × (n.0.mine ≡ v.mine) × (n.0.seen ≡ h.entries)
-answered v x n h new had has =
+pub answered : (v : View) {x n : Sits} {h : Past} → IsNew v h
+    → x ≡ (knowing v (Some h.entries) v.seen v.mine, (0, None) ∷ [])
+    → n ≡ (knowing x.0 None h.entries x.0.mine, [])
+    → Goes v n.0 × (n.0.mine ≡ v.mine) × (n.0.seen ≡ h.entries)
+answered v {n = n} {h = h} new had has =
     let w : View = knowing v None h.entries v.mine in
     let m : Sits = (w, []) in
     let p : n ≡ m = has ∙ (λ i. (knowing (had i).0 None h.entries (had i).0.mine, [])) in
-    let told : Goes v w × (w.mine ≡ v.mine) × (w.seen ≡ h.entries) = ((refl, refl, new.0, new.2, new.1), refl, refl) in
+    let told : Goes v w × (w.mine ≡ v.mine) × (w.seen ≡ h.entries) =
+    ((refl, refl, new.0, new.2, new.1), refl, refl) in
     subst (λ (y : Sits). Goes v y.0 × (y.0.mine ≡ v.mine) × (y.0.seen ≡ h.entries)) (sym p) told

@@ -15,14 +15,11 @@ use Rattle.replay_mutex.specs.Views.{Slot, StartsWith, calls_by, knowing, Sits}
 use Rattle.replay_mutex.specs.Rule.{Ruled}
 use Rattle.replay_mutex.specs.Plays.{or_none, in_hand, Took, Takes, counted, Counts, Loads, Returns}
 use Rattle.replay_mutex.specs.Holding.{Rests}
-use Rattle.replay_mutex.proofs.Calls.{starts_again, starts_trans, calls_by-own, calls_by-other, dropped}
+use Rattle.replay_mutex.proofs.Calls.{starts_again, starts_trans, calls_by-own, calls_by-other, dropped, none_is_not}
 use Rattle.replay_mutex.proofs.Moved.{IsIdle, moved}
 
 some_is : (x y : List Entry) → Some x ≡ Some y → x ≡ y
 some_is x y e = cc
-
-none_is_not : (x : List Entry) → None ≡ Some x → ⊥
-none_is_not x e = cc
 
 -- where the lock is free, nobody holds the hub
 idle_free : (s : State Slot View) (r : Ruled s) (id : ℕ) → r.lock ≡ 0 → IsIdle s.views id
@@ -168,7 +165,7 @@ module _ (id : ℕ) (v : View) (here : v.spent ≡ false) (h : List Entry) (note
               number = refl;
               made = refl;
               joined = refl;
-              fits = record { begins = f.begins; own = f.own; own_seen = f.own_seen; earlier = f.earlier; held = λ h' is'. absurd (none_is_not h' is') };
+              fits = record { begins = f.begins; own = f.own; own_seen = f.own_seen; earlier = f.earlier; held = λ h' is'. absurd (none_is_not None h' refl is') };
               holds = λ ne. absurd (ne refl);
               top = inr (refl, refl);
             }

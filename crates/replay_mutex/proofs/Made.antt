@@ -7,17 +7,13 @@ use native.Mathlib.Decide.{ℕ_discrete}
 use lib.ListN.{get_elem?}
 use Rattle.atomic_table.specs.Table.{State, opening, Splits}
 use Rattle.atomic_table.proofs.Lists.{at_set, set_else, at_longer}
-use Rattle.plain_hub.specs.declared.entry.Entry.{Entry}
 use Rattle.plain_hub.specs.declared.base.Base.{Base}
 use Rattle.plain_hub.specs.Past.{past}
 use Rattle.replay_mutex.specs.declared.view.View.{View}
 use Rattle.replay_mutex.specs.declared.view.Joined.{Joined}
 use Rattle.replay_mutex.specs.Views.{Slot, is_joined, newcomer, one_more}
 use Rattle.replay_mutex.specs.Rule.{Fits, Keeps, Ruled}
-use Rattle.replay_mutex.proofs.Calls.{set_mine}
-
-none_is_not : (x : List Entry) → None ≡ Some x → ⊥
-none_is_not x e = cc
+use Rattle.replay_mutex.proofs.Calls.{set_mine, at_end, none_is_not}
 
 not_false : true ≡ false → ⊥
 not_false e = true≢false e
@@ -34,7 +30,7 @@ begins b = record {
   holder = λ ne. absurd (ne refl);
   top = (0, newcomer b 0 1, refl, refl, refl);
   based = λ i v at live. ap (λ (y : View). y.base) (sym (only i v at).1);
-  each = λ i v at live. let is = only i v at in subst (Fits [] 0) is.1 record { begins = ([], refl); own = refl; own_seen = refl; earlier = λ m x e. absurd (some-ne-none x (sym e)); held = λ h e. absurd (none_is_not h e) };
+  each = λ i v at live. let is = only i v at in subst (Fits [] 0) is.1 record { begins = ([], refl); own = refl; own_seen = refl; earlier = λ m x e. absurd (some-ne-none x (sym e)); held = λ h e. absurd (none_is_not None h refl e) };
   distinct = λ i j v w ei ej lv lw same. (only i v ei).0 ∙ sym (only j w ej).0;
   keeps = λ i v at live n0. subst (Keeps [] (newcomer b 0 1 ∷ [])) (only i v at).1 record {
     others = λ j u e l. let is = only j u e in (subst (λ (y : View). y.number < 1) is.1 (omega arith), refl);
@@ -51,12 +47,6 @@ begins b = record {
 unjoined : (n : ℕ) (xs : List Joined) → ((k : ℕ) (x : Joined) → get_elem? xs k ≡ some x → x.number < n) → is_joined n xs ≡ false
 unjoined n [] below = refl
 unjoined n (y ∷ xs) below = let lt : y.number < n = below 0 y refl in let ne : y.number ≢ n = (λ e. omega arith) in ap (λ b. b || is_joined n xs) (ne_eqb y.number n ne) ∙ unjoined n xs (λ k x e. below (suc k) x e)
-
-at_end : {A : Type 0} (l : List A) (a b : A) (j : ℕ) → get_elem? (l ++ a ∷ []) j ≡ some b → (get_elem? l j ≡ some b) ⊎ ((j ≡ length l) × (a ≡ b))
-at_end [] a b zero e = inr (refl, some-injective a b e)
-at_end [] a b (suc j) e = absurd (some-ne-none b (sym e))
-at_end (x ∷ xs) a b zero e = inl e
-at_end (x ∷ xs) a b (suc j) e = ⊎_elim (λ t. inl t) (λ t. inr (ap suc t.0, t.1)) (at_end xs a b j e)
 
 -- a pass is made by the pass 0
 module _ (id : ℕ) (v : View) (here : v.spent ≡ false) (first : v.number ≡ 0) (s : State Slot View) (r : Ruled s) (at : get_elem? s.views id ≡ some v) where
@@ -88,7 +78,7 @@ module _ (id : ℕ) (v : View) (here : v.spent ≡ false) (first : v.number ≡ 
   fits : (j : ℕ) (u : View) → u.spent ≡ false → Where j u → Fits r.log r.lock u
   fits j u live (inl x) = subst (Fits r.log r.lock) x.1 record { begins = f.begins; own = f.own; own_seen = f.own_seen; earlier = f.earlier; held = f.held }
   fits j u live (inr (inl x)) = r.each j u x.1 live
-  fits j u live (inr (inr x)) = subst (Fits r.log r.lock) x.1 record { begins = (r.log, refl); own = k.unmade v.made (omega arith); own_seen = refl; earlier = λ m x e. absurd (some-ne-none x (sym e)); held = λ h is. absurd (none_is_not h is) }
+  fits j u live (inr (inr x)) = subst (Fits r.log r.lock) x.1 record { begins = (r.log, refl); own = k.unmade v.made (omega arith); own_seen = refl; earlier = λ m x e. absurd (some-ne-none x (sym e)); held = λ h is. absurd (none_is_not None h refl is) }
 
   -- its number is below the new one, or it is the new one
   numbered : (j : ℕ) (u : View) → u.spent ≡ false → Where j u → (u.number < v.made + 1) × (is_joined u.number v.joined ≡ false)

@@ -1,8 +1,9 @@
 -- A pass is taken in by the pass 0: the rule stays.
-use Rattle.std.proofs.Common.{◌≡◌, ◌≢◌, ◌⊎◌, ℕ, zero, suc, ◌<◌, ◌≤◌, List, [], ◌∷◌, ◌++◌, length, Bool, true, false, true≢false, ◌||◌, ◌==◌, Option, Some, None, refl, sym, ap, ◌∙◌, subst, inl, inr, ⊎_elim, arith, ne_eqb, length-append}
+use Rattle.std.proofs.Common.{◌≡◌, ◌≢◌, ◌⊎◌, ℕ, ◌<◌, ◌≤◌, List, [], ◌∷◌, ◌++◌, length, Bool, true, false, true≢false, ◌||◌, ◌==◌, None, refl, sym, ap, ◌∙◌, subst, inl, inr, ⊎_elim, arith, ne_eqb, length-append, append-nil}
 use Rattle.std.proofs.lemmas.Bool.Decides.{nat_tests}
+use Rattle.std.proofs.lemmas.List.{nil_from_length}
 use Rattle.std.specs.Prelude.{slice_set, if◌then◌else◌, nat_le}
-use mathlib.Core.Option.{some, some-injective, some-ne-none}
+use mathlib.Core.Option.{some, some-injective}
 use mathlib.Core.Logic.{dite}
 use native.Mathlib.Decide.{ℕ_discrete}
 use lib.ListN.{get_elem?}
@@ -13,10 +14,7 @@ use Rattle.replay_mutex.specs.declared.view.View.{View}
 use Rattle.replay_mutex.specs.declared.view.Joined.{Joined}
 use Rattle.replay_mutex.specs.Views.{Slot, StartsWith, calls_by, is_joined, longer, joined, taken_in, spent}
 use Rattle.replay_mutex.specs.Rule.{Fits, Keeps, Ruled}
-use Rattle.replay_mutex.proofs.Calls.{set_mine, calls_by-append}
-
-none_is_not : (o : Option (List Entry)) (x : List Entry) → o ≡ None → o ≡ Some x → ⊥
-none_is_not o x e f = cc
+use Rattle.replay_mutex.proofs.Calls.{set_mine, calls_by-append, at_end, none_is_not}
 
 -- of two beginnings of one list the longer begins with the shorter
 pub begins_longer : (log xs ys : List Entry) → StartsWith log xs → StartsWith log ys → length xs ≤ length ys → StartsWith ys xs
@@ -37,11 +35,7 @@ whole : (log xs : List Entry) → StartsWith log xs → length log ≤ length xs
 whole log xs a le = all a.0 xs log a.1 le
   where
     all : (more xs log : List Entry) → log ≡ xs ++ more → length log ≤ length xs → log ≡ xs
-    all [] xs log e le = e ∙ nil xs
-      where
-        nil : (l : List Entry) → l ++ [] ≡ l
-        nil [] = refl
-        nil (x ∷ l) = ap (λ m. x ∷ m) (nil l)
+    all [] xs log e le = e ∙ append-nil xs
     all (y ∷ more) xs log e le = absurd (let n = ap length e in omega (arith, length-append xs (y ∷ more)))
 
 is_le : (m n : ℕ) → nat_le m n ≡ true → m ≤ n
@@ -64,15 +58,7 @@ no_calls p xs ys zs e =
     let a = calls_by-append p (xs ++ ys) zs in
     let b = calls_by-append p xs ys in
     let n : length (calls_by p ys) ≡ 0 = (let l = ap length e in let la = ap length a in let lb = ap length b in omega (arith, length-append (calls_by p (xs ++ ys)) (calls_by p zs), length-append (calls_by p xs) (calls_by p ys))) in
-    b ∙ ap (λ l. calls_by p xs ++ l) (empty (calls_by p ys) n) ∙ nil (calls_by p xs)
-  where
-    empty : (l : List Entry) → length l ≡ 0 → l ≡ []
-    empty [] e = refl
-    empty (x ∷ l) e = absurd (omega arith)
-
-    nil : (l : List Entry) → l ++ [] ≡ l
-    nil [] = refl
-    nil (x ∷ l) = ap (λ m. x ∷ m) (nil l)
+    b ∙ ap (λ l. calls_by p xs ++ l) (nil_from_length (calls_by p ys) n) ∙ append-nil (calls_by p xs)
 
 -- a longer beginning has the same calls
 same_calls : (p : ℕ) (log xs ys : List Entry) → StartsWith ys xs → StartsWith log ys → calls_by p log ≡ calls_by p xs → calls_by p ys ≡ calls_by p xs
@@ -89,12 +75,6 @@ is_joined-push n (x ∷ xs) y e ne = ap (λ b. b || is_joined n (xs ++ y ∷ [])
     or_right : (a b : Bool) → (a || b) ≡ false → b ≡ false
     or_right true b e = absurd (true≢false e)
     or_right false b e = e
-
-at_end : {A : Type 0} (l : List A) (a b : A) (j : ℕ) → get_elem? (l ++ a ∷ []) j ≡ some b → (get_elem? l j ≡ some b) ⊎ (a ≡ b)
-at_end [] a b zero e = inr (some-injective a b e)
-at_end [] a b (suc j) e = absurd (some-ne-none b (sym e))
-at_end (x ∷ xs) a b zero e = inl e
-at_end (x ∷ xs) a b (suc j) e = at_end xs a b j e
 
 module _ (id : ℕ) (v : View) (here : v.spent ≡ false) (first : v.number ≡ 0) (rests : v.noted ≡ None) (other : ℕ) (w : View) (there : w.spent ≡ false) (free : w.noted ≡ None)
     (s : State Slot View) (r : Ruled s) (at : get_elem? s.views id ≡ some v) (ne : other ≢ id) (with : get_elem? s.views other ≡ some w) where
@@ -129,7 +109,7 @@ module _ (id : ℕ) (v : View) (here : v.spent ≡ false) (first : v.number ≡ 
   seen_own = by_longer (λ l. calls_by v.number l ≡ v.mine) v.seen w.seen (λ _. f.own_seen) (λ le. same_calls v.number r.log v.seen w.seen (begins_longer r.log v.seen w.seen f.begins o.begins le) o.begins (f.own ∙ sym f.own_seen) ∙ f.own_seen)
 
   fits : (j : ℕ) (u : View) → u.spent ≡ false → Where j u → Fits r.log r.lock u
-  fits j u live (inl x) = subst (Fits r.log r.lock) x.1 record { begins = seen_begins; own = f.own; own_seen = seen_own; earlier = λ m x e. ⊎_elim (λ old. f.earlier m x old) (λ (new : v.seen ≡ x). subst (StartsWith r.log) new f.begins) (at_end v.earlier v.seen x m e); held = λ h is. absurd (none_is_not v.noted h rests is) }
+  fits j u live (inl x) = subst (Fits r.log r.lock) x.1 record { begins = seen_begins; own = f.own; own_seen = seen_own; earlier = λ m x e. ⊎_elim (λ old. f.earlier m x old) (λ (new : (m ≡ length v.earlier) × (v.seen ≡ x)). subst (StartsWith r.log) new.1 f.begins) (at_end v.earlier v.seen x m e); held = λ h is. absurd (none_is_not v.noted h rests is) }
   fits j u live (inr x) = r.each j u x.2 live
 
   distinct : (i j : ℕ) (a b : View) → a.spent ≡ false → b.spent ≡ false → a.number ≡ b.number → Where i a → Where j b → i ≡ j
@@ -146,7 +126,7 @@ module _ (id : ℕ) (v : View) (here : v.spent ≡ false) (first : v.number ≡ 
   keeps i a live z (inl x) = subst (Keeps r.log views) x.1 record {
     others = λ j u e l. numbered j u l (where_is j u e l);
     unmade = k.unmade;
-    gone = λ m y e. ⊎_elim (λ old. k.gone m y old) (λ (new : joined w ≡ y). subst (λ (q : Joined). StartsWith r.log q.seen × (calls_by q.number r.log ≡ q.mine) × (q.number < v.made) × (q.base ≡ v.base)) new (o.begins, o.own, (k.others other w with there).0, r.based other w with there ∙ sym (r.based id v at here))) (at_end v.joined (joined w) y m e);
+    gone = λ m y e. ⊎_elim (λ old. k.gone m y old) (λ (new : (m ≡ length v.joined) × (joined w ≡ y)). subst (λ (q : Joined). StartsWith r.log q.seen × (calls_by q.number r.log ≡ q.mine) × (q.number < v.made) × (q.base ≡ v.base)) new.1 (o.begins, o.own, (k.others other w with there).0, r.based other w with there ∙ sym (r.based id v at here))) (at_end v.joined (joined w) y m e);
   }
   keeps i a live z (inr x) = absurd (x.0 (r.distinct i id a v x.2 at live here (z ∙ sym first)))
 

@@ -1,7 +1,5 @@
-use Rattle.std.proofs.Common.{◌≡◌, sym, ap, ◌∙◌, subst}
-use Rattle.plain_hub.specs.declared.entry.Call.{Call}
+use Rattle.std.proofs.Common.{sym, subst}
 use Rattle.plain_hub.specs.declared.entry.Call.TheVariants.{Claim}
-use Rattle.plain_hub.specs.Past.{and_then}
 use Rattle.plain_hub.specs.Proper.{Owes}
 use Rattle.replay_mutex.specs.Views.{Sits}
 use Rattle.replay_mutex.specs.Shown.{knows}
@@ -11,35 +9,23 @@ use Rattle.replay_mutex.proofs.hub.Hub.claim.Goals as goal
 pub enter-requires-clause-holds : goal.enter-requires-clause-holds
 enter-requires-clause-holds g c =
     let p = c.args.pass.now in
-    let h = c.take_out-hub.result in
-    let call : Call = Claim c.in-Ok.job in
-    let is : c.claim.new.self ≡ and_then h (knows p).number call = c.in-Ok.ensures.ok ∙ ap (λ n. and_then h n call) (sym p.numbered) in
-    may_enter (knows p) c.take_out-hub.new.seat.me h c.claim.new.self call p.here c.take_out-hub.ensures.new c.take_out-hub.ensures.holds is
+    may_enter (knows p) (Claim c.in-Ok.job) p.here c.take_out-hub.ensures.new c.take_out-hub.ensures.holds
+    p.numbered c.in-Ok.ensures.ok
 
-pub invariant_of-pass : goal.invariant_of-pass
-invariant_of-pass g c =
+pub invariant_of-pass-clause-own : goal.invariant_of-pass-clause-own
+invariant_of-pass-clause-own g c =
     let p = c.args.pass.now in
-    let h = c.take_out-hub.result in
-    let call : Call = Claim c.in-Ok.job in
-    let is : c.claim.new.self ≡ and_then h (knows p).number call = c.in-Ok.ensures.ok ∙ ap (λ n. and_then h n call) (sym p.numbered) in
-    let e = entered (knows p) c.take_out-hub.new.seat.me c.enter.new.seat.me h c.claim.new.self call c.take_out-hub.ensures.new c.take_out-hub.ensures.holds is c.enter.ensures.legal c.enter.ensures.rests in
-    record {
-      numbered = ap (λ (m : Sits). m.0.number) e.0 ∙ p.numbered;
-      few = p.few;
-      counted = ap (λ (m : Sits). m.0.made) e.0 ∙ p.counted;
-      empty = ap (λ (m : Sits). m.1) e.0;
-      free = ap (λ (m : Sits). m.0.noted) e.0;
-      own = e.1.0.4;
-      here = ap (λ (m : Sits). m.0.spent) e.0 ∙ p.here;
-    }
+    let e = entered (knows p) (Claim c.in-Ok.job) c.take_out-hub.ensures.new c.take_out-hub.ensures.holds
+    p.numbered c.in-Ok.ensures.ok c.enter.ensures.legal c.enter.ensures.rests in
+    e.1.0.4
 
 pub returns-in-Ok-clause-owes : goal.returns-in-Ok-clause-owes
 returns-in-Ok-clause-owes g c =
     let p = c.args.pass.now in
-    let h = c.take_out-hub.result in
     let j = c.in-Ok.job in
-    let call : Call = Claim j in
-    let is : c.claim.new.self ≡ and_then h (knows p).number call = c.in-Ok.ensures.ok ∙ ap (λ n. and_then h n call) (sym p.numbered) in
-    let e = entered (knows p) c.take_out-hub.new.seat.me c.enter.new.seat.me h c.claim.new.self call c.take_out-hub.ensures.new c.take_out-hub.ensures.holds is c.enter.ensures.legal c.enter.ensures.rests in
-    let o = owed (knows p) h c.claim.new.self j c.take_out-hub.ensures.new is c.enter.ensures.legal c.len-kept.ensures.proper in
+    let new = c.take_out-hub.ensures.new in
+    let legal = c.enter.ensures.legal in
+    let e = entered (knows p) (Claim j) new c.take_out-hub.ensures.holds p.numbered
+    c.in-Ok.ensures.ok legal c.enter.ensures.rests in
+    let o = owed (knows p) j new p.numbered c.in-Ok.ensures.ok legal c.len-kept.ensures.proper in
     subst (λ (m : Sits). Owes m.0.mine m.0.number j) (sym e.0) o
