@@ -15,6 +15,7 @@ use Rattle.commands.specs.declared.outcome.Outcome.{Outcome}
 use Rattle.commands.specs.declared.outcome.Outcome.TheVariants as outcome
 use Rattle.commands.specs.declared.printing.PrintFault.{PrintFault}
 use Rattle.commands.specs.declared.printing.PrintFault.TheVariants.{Failed, NoMemory}
+use Rattle.commands.proofs.Replayed.{both-rose}
 use Rattle.check_command.specs.Checks.{accepted_line, IsAccepted, UnacceptedCause, CheckCause, only_judging}
 use Rattle.check_command.specs.declared.tally.Tally.{Tally}
 use Rattle.check_command.proofs.Judged.{both-some}
@@ -87,9 +88,6 @@ told-cause r t old mid new line printed x k same is taken failed by =
     told (Err NoMemory) took fault = tt
 
 -- ---- where it has none
-
-both-rose : (a n : ℕ) → Rose 0 n → Rose a (both a n)
-both-rose a n rose = omega (arith, rose)
 
 log-rose : (old mid : Ledger) (n : ℕ) → at mid.faults LogIn ≡ at old.faults LogIn → Rose 0 n
     → Rose (at old.faults LogIn) (both (at mid.faults LogIn) n)

@@ -23,7 +23,7 @@ use Rattle.commands.specs.Playing.{ShowsOver}
 use Rattle.commands.specs.declared.outcome.Outcome.{Outcome}
 use Rattle.commands.proofs.LogLimits.{log-length}
 use Rattle.commands.proofs.Played.{shows-over}
-use Rattle.commands.proofs.Replayed.{Begins, Told, if-both, played-cause}
+use Rattle.commands.proofs.Replayed.{Begins, Told, if-both, whole-log, played-cause}
 use Rattle.check_command.specs.Checks.{IsAccepted, UnacceptedCause, Judges, judged}
 use Rattle.check_command.specs.declared.tally.Tally.{Tally}
 
@@ -57,23 +57,14 @@ accepted-whole : (w : Replaying) (log file : List ℕ) (h : Header) (f : Loaded)
     → IsAccepted w log file
     (record { events = accepted; turns = turns; reason = reason; code = code })
 accepted-whole w log file h f p q reason code accepted turns t k =
-    let whole : drop 98 log ≡ texts k.events =
-    subst (λ (o : Option (List ℕ)). IfSome o (λ bytes. bytes ≡ texts k.events)) t.left k.whole in
+    let whole = whole-log w log file h f p q reason code accepted turns t k in
     record {
       header = h;
       firmware = f;
       starts = t.starts;
-      short = omega (arith, k.short, log-length log h t.starts.has, ap length whole);
+      short = whole.0;
       last = k.last;
-      whole = record {
-        events = k.events;
-        accepted = record {
-          parts = whole ∙ sym (append-nil (texts k.events));
-          are = k.plays.are;
-          runs = k.plays.runs;
-        };
-        ended = ap is_some k.ended;
-      };
+      whole = record { events = k.events; accepted = whole.1; ended = ap is_some k.ended };
       events = k.counted;
       turns = k.made;
       ended = k.ended;

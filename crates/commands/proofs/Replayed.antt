@@ -2,6 +2,7 @@
 use Rattle.std.proofs.Common.{◌≡◌, ◌≤◌, ◌<◌, ◌+◌, ◌^◌, ℕ, Bool, true, false, List, [], ◌++◌, length, drop, refl, sym, ap, ◌∙◌, subst, inl, inr, arith, append-nil, length-append}
 use Rattle.std.proofs.Math.Seq.{drop-append_seam}
 use Rattle.std.proofs.lemmas.Bool.{eqb-true, eqb-false}
+use Rattle.std.proofs.lemmas.Option.{IfSome_then}
 use Rattle.std.specs.Prelude.{Some, None, IfSome, IsSome, IsNone, ◌⊎◌, is_some, ◌==◌, if◌then◌else◌}
 use Rattle.std.specs.declared.option.Option.{Option}
 use Rattle.std.specs.Io.KnownBytes.{Consumes}
@@ -40,31 +41,13 @@ use Rattle.commands.specs.declared.outcome.Outcome.TheVariants as outcome
 use Rattle.run_files.specs.Files.{firmware_opening, FailsToOpen}
 use Rattle.run_files.specs.Images.{IsFirmware, IsBadImage, NamesNoDisk}
 use Rattle.run_files.specs.Headers.{HasHeader}
+use Rattle.run_files.proofs.Headed.{headed}
 use Rattle.commands.specs.Replays.{is_another, word_difference, Starts, IsDifferent, IsReplayed, IsRefusedLog, IsReplayedToLimit, IsUndecided, IsShown, read_of}
 use Rattle.commands.proofs.LogLimits.{log-length, read-parts}
 use Rattle.run_files.specs.Images.{IsImageFault}
 use Rattle.commands.specs.Asking.{image_outcome_of, replay_outcome_of}
 use Rattle.commands.specs.Playing.{ShowsOver}
 use Rattle.commands.specs.Causes.{IfBoth, ReplayCause}
-
--- what holds of told bytes by what holds of them
-pub if-some : {P Q : List ℕ → Type 0} (o : Option (List ℕ)) → ((x : List ℕ) → P x → Q x)
-    → IfSome o P → IfSome o Q
-if-some None f k = tt
-if-some (Some x) f k = f x k
-
--- ---- the header
-
--- a header that was read stands at the front of the log, and the rest is ahead
-pub headed : (o rest : Option (List ℕ)) (h : Header) → IsHeader h → Consumes o rest (header_text h)
-    → IfSome o (λ bytes. HasHeader bytes h × (rest ≡ Some (drop 98 bytes)))
-headed None rest h is c = tt
-headed (Some xs) None h is c = absurd c
-headed (Some xs) (Some ys) h is c =
-    let dropped : drop 98 xs ≡ ys =
-    ap (drop 98) c ∙ ap (λ (n : ℕ). drop n (header_text h ++ ys)) (sym (header_length h is)) ∙
-    drop-append_seam (header_text h) ys in
-    (record { is = is; stands = header_drop h xs ys is c }, ap Some (sym dropped))
 
 -- ---- what differs
 
@@ -83,8 +66,8 @@ pub words-cause : (w : Replaying) (o rest : Option (List ℕ)) (h : Header) (l m
     → IsHeader h → Consumes o rest (header_text h) → word_difference w h ≡ Some d
     → ReplayCause w o l m F (outcome.ImagesDiffer d)
 words-cause w o rest h l m F d is c e =
-    if-some o (λ bytes k. (h, k.0, words-differ w h (l.names w.bios) d _ _ refl refl e))
-    (headed o rest h is c)
+    IfSome_then o (headed o rest h is c)
+    (λ bytes k. (h, k.0, words-differ w h (l.names w.bios) d _ _ refl refl e))
 
 -- why the firmware's file isn't the image
 bad-image : (w : Replaying) (h : Header) (o held : Option (List ℕ)) (e : LoadError)
@@ -106,14 +89,14 @@ pub image-cause : (w : Replaying) (o rest : Option (List ℕ)) (h : Header) (l m
 image-cause w o rest h l m F image.CannotOpen is c words k unopened unread = unopened refl
 image-cause w o rest h l m F image.CannotRead is c words k unopened unread = unread refl
 image-cause w o rest h l m F image.OtherFirmware is c words k unopened unread =
-    if-some o (λ bytes t. (h, t.0, (words, k))) (headed o rest h is c)
+    IfSome_then o (headed o rest h is c) (λ bytes t. (h, t.0, (words, k)))
 image-cause w o rest h l m F (image.Bad rule) is c words k unopened unread =
-    bad-image w h o (l.names w.bios) rule words (if-some o (λ bytes t. t.0) (headed o rest h is c))
+    bad-image w h o (l.names w.bios) rule words (IfSome_then o (headed o rest h is c) (λ bytes t. t.0))
     k
 image-cause w o rest h l m F image.OtherDiskLength is c words k unopened unread =
-    if-some o (λ bytes t. (h, t.0, (words, k))) (headed o rest h is c)
+    IfSome_then o (headed o rest h is c) (λ bytes t. (h, t.0, (words, k)))
 image-cause w o rest h l m F image.OtherDisk is c words k unopened unread =
-    if-some o (λ bytes t. (h, t.0, (words, k))) (headed o rest h is c)
+    IfSome_then o (headed o rest h is c) (λ bytes t. (h, t.0, (words, k)))
 image-cause w o rest h l m F image.NoMemory is c words k unopened unread = tt
 
 -- ---- the run
@@ -151,29 +134,37 @@ if-both w None held h f rest b make = tt
 if-both w (Some xs) None h f rest b make = tt
 if-both w (Some xs) (Some file) h f rest b make = make xs file refl (both-told w xs file h f rest b)
 
+-- the log that a replay played whole isn't too long to be read, and is its events to the end
+pub whole-log : (w : Replaying) (log file : List ℕ) (h : Header) (f : Loaded) (p q : Played)
+    (reason code accepted turns : ℕ)
+    → Told w log file h f (ahead p.log)
+    → (k : PlaysWhole (start_of h f) p q reason code accepted turns)
+    → (length log ≤ 2 ^ 40) × Accepted (drop 98 log) (start_of h f) k.events [] k.last
+whole-log w log file h f p q reason code accepted turns t k =
+    let whole : drop 98 log ≡ texts k.events =
+    subst (λ (o : Option (List ℕ)). IfSome o (λ bytes. bytes ≡ texts k.events)) t.left k.whole in (
+      omega (arith, k.short, log-length log h t.starts.has, ap length whole),
+      record {
+        parts = whole ∙ sym (append-nil (texts k.events));
+        are = k.plays.are;
+        runs = k.plays.runs;
+      },
+    )
+
 -- the log is accepted whole
 replayed : (w : Replaying) (log file : List ℕ) (h : Header) (f : Loaded) (p q : Played) (l : Ledger)
     (reason code accepted turns : ℕ)
     → Told w log file h f (ahead p.log) → PlaysWhole (start_of h f) p q reason code accepted turns
     → p.console ≡ Some [] → at l.last ConsoleOut ≡ q.console → IsReplayed w log file l reason code
 replayed w log file h f p q l reason code accepted turns t k none taken =
-    let whole : drop 98 log ≡ texts k.events =
-    subst (λ (o : Option (List ℕ)). IfSome o (λ bytes. bytes ≡ texts k.events)) t.left k.whole in
+    let whole = whole-log w log file h f p q reason code accepted turns t k in
     record {
       header = h;
       firmware = f;
       starts = t.starts;
-      short = omega (arith, k.short, log-length log h t.starts.has, ap length whole);
+      short = whole.0;
       last = k.last;
-      whole = record {
-        events = k.events;
-        accepted = record {
-          parts = whole ∙ sym (append-nil (texts k.events));
-          are = k.plays.are;
-          runs = k.plays.runs;
-        };
-        ended = ap is_some k.ended;
-      };
+      whole = record { events = k.events; accepted = whole.1; ended = ap is_some k.ended };
       ended = k.ended;
       console = subst (λ (o : Option (List ℕ)). Takes (Some []) o k.last.devices.uart.out)
           (sym taken)
@@ -380,7 +371,8 @@ going : (h : Header) (f : Loaded) → (start_of h f).control.ended ≡ None
 unfolding reset
 going h f = refl
 
-both-rose : (a n : ℕ) → Rose 0 n → Rose a (both a n)
+-- the count of a device that failed since it was opened rose, once it is given back
+pub both-rose : (a n : ℕ) → Rose 0 n → Rose a (both a n)
 both-rose a n rose = omega (arith, rose)
 
 console-rose : (l mid m : Ledger) (n : ℕ) → at mid.faults ConsoleOut ≡ at l.faults ConsoleOut

@@ -25,7 +25,7 @@ use Rattle.board.specs.Laws.{IsLaterBy}
 use Rattle.board.specs.Runs.{run, turns}
 use Rattle.board.specs.Reset.{reset, start_of}
 use Rattle.board.proofs.ClockLaws.{run-counts}
-use Rattle.log_order.proofs.Following.{text-some}
+use Rattle.log_order.proofs.Following.{text-some, some_is}
 use Rattle.log_order.proofs.Verdicts.{whole-right}
 use Rattle.log_order.specs.Order.{IsFirstWrong, IsWhole, IsWrong}
 use Rattle.log_order.specs.declared.refusal.Refusal.{Refusal}
@@ -40,7 +40,7 @@ use Rattle.rr_engine.specs.Replaying.{Played, played, PlaysToWrong, PlaysToLimit
 use Rattle.rr_engine.proofs.Limits.{all-within}
 use Rattle.demo_run.specs.Guests.{guest_bytes}
 use Rattle.run_files.specs.Headers.{HasHeader}
-use Rattle.run_files.proofs.Headed.{behind-text, begins, one-header}
+use Rattle.run_files.proofs.Headed.{behind-text, begins, headed as log-headed, one-header}
 use Rattle.demo_run.specs.Demos.{demo_header, AreZero, Demonstration, demo_line, IsRecording, IsRecordedFrom, IsBehindHeader, HasEvents}
 
 -- ---- what the devices of a recording tell
@@ -127,35 +127,22 @@ recorded start head log console p q calls reason code a b c d e f g counted r =
 
 -- ---- the header of a log
 
--- a header that was read, and what is ahead behind it
-record Passed (h : Header) (log : List ℕ) (left : Option (List ℕ)) : Type 0 where
-  pub stands : log ≡ header_text h ++ drop 98 log
-  pub left_is : left ≡ Some (drop 98 log)
-
 passed : (h : Header) (log : List ℕ) (old new : Option (List ℕ)) → IsHeader h → old ≡ Some log
-    → Consumes old new (header_text h) → Passed h log new
-passed h log old None is e c =
-    absurd (subst (λ (z : Option (List ℕ)). Consumes z None (header_text h)) e c)
-passed h log old (Some rest) is e c =
-    let parts : log ≡ header_text h ++ rest =
-    subst (λ (z : Option (List ℕ)). Consumes z (Some rest) (header_text h)) e c in
-    let behind = sym (behind-text h log rest is parts) in record {
-      stands = parts ∙ ap (λ (z : List ℕ). header_text h ++ z) behind;
-      left_is = ap Some behind;
-    }
+    → Consumes old new (header_text h) → HasHeader log h × (new ≡ Some (drop 98 log))
+passed h log old new is e c =
+    log-headed (Some log) new h is
+    (subst (λ (z : Option (List ℕ)). Consumes z new (header_text h)) e c)
 
 pub header-read : (log : List ℕ) (old new : Reader) (h : Header)
     → old ≡ reading (Some log) 0 (none_read 0) → Heads old new (Ok h) → HasHeader log h
-header-read log old new h e k = record {
-  is = k.1;
-  stands = (passed h log (ahead old) (ahead new) k.1 (ap ahead e) k.2.bytes).stands;
-}
+header-read log old new h e k =
+    (passed h log (ahead old) (ahead new) k.1 (ap ahead e) k.2.bytes).0
 
 pub headed : (log : List ℕ) (old new : Reader) (h : Header)
     → old ≡ reading (Some log) 0 (none_read 0) → Heads old new (Ok h)
     → IsBehindHeader new (drop 98 log)
 headed log old new h e k = record {
-  bytes = (passed h log (ahead old) (ahead new) k.1 (ap ahead e) k.2.bytes).left_is;
+  bytes = (passed h log (ahead old) (ahead new) k.1 (ap ahead e) k.2.bytes).1;
   place = k.3;
   works = k.0.works;
   faults = k.0.faults ∙ ap (λ (r : Reader). r.faults) e;
@@ -189,12 +176,6 @@ texts-same (e ∷ es) (d ∷ ds) p q same =
     let front = same_front e d (texts es) (texts ds) p.0 q.0 same in
     ap (λ (z : Event). z ∷ es) front.0
     ∙ ap (λ (z : List Event). d ∷ z) (texts-same es ds p.1 q.1 front.1)
-
-abbrev some_state : State → Option State
-some_state g = Some g
-
-state-is : (g h : State) → some_state g ≡ some_state h → g ≡ h
-state-is g h e = cc
 
 -- the events that a log has behind its header
 pub recording-text : (start : State) (h : Header) (log console : List ℕ) → IsHeader h
@@ -372,7 +353,7 @@ shown-again start h log console shown p q reason code accepted turned r k told =
     let events = replayed-events start h log console p q reason code accepted turned
     r.recording.events r k (recording-events start h log console r.is r.recording) in
     let last : k.last ≡ r.recording.last =
-    state-is k.last r.recording.last
+    some_is k.last r.recording.last
     (sym k.plays.runs ∙ ap (run start) events ∙ r.recording.runs) in
     took p.console q.console shown k.last.devices.uart.out r.fresh told k.console
     ∙ ap (λ (g : State). g.devices.uart.out) last ∙ sym r.recording.console

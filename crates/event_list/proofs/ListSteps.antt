@@ -3,6 +3,9 @@ use Rattle.std.proofs.Common.{◌≡◌, ℕ, ◌<◌, ◌≤◌, ◌+◌, ◌^�
 use Rattle.std.specs.Prelude.{Some, None, IfSome, Ok, Err, ⊤}
 use Rattle.std.specs.declared.option.Option.{Option}
 use Rattle.std.specs.List.{AllByRecursion}
+use Rattle.std.proofs.lemmas.Bool.{both_ways}
+use Rattle.std.proofs.lemmas.List.{nil_from_length}
+use Rattle.std.proofs.lemmas.Option.{IfSome_then}
 use Rattle.std.specs.Io.KnownBytes.{Consumes}
 use Rattle.std.proofs.KnownBytes.{Consumes-nil, Consumes-trans}
 use Rattle.outside.specs.Causes.{Rose}
@@ -25,7 +28,7 @@ use Rattle.event_list.specs.declared.listing.ListEnd.{ListEnd}
 use Rattle.event_list.specs.declared.listing.ListEnd.TheVariants.{Whole, Refused, LogRead, LogTooLong, WriteFault, NoMemory}
 use Rattle.event_list.specs.Texts.{event_line, lines_from, event_lines}
 use Rattle.event_list.specs.Listing.{is_end, EndIsLast, ended, Listed, listed, behind, Begins, IsWrongAt, IsPastLimit, StartsWith, Unfaulted, ListsFront, ListsTo, refusal_of, stopped_as}
-use Rattle.event_list.proofs.Told.{told-then, told-both, told-any, told-behind, told-front, none-of, some-within, none-within, long-ahead}
+use Rattle.event_list.proofs.Told.{told-both, told-any, told-behind, told-front, some-within, none-within, long-ahead}
 
 -- ---- one event more
 
@@ -109,10 +112,6 @@ asked : (a : Option (List ℕ)) → IfSome a AsksMemory
     → (e : Event) × IsEvent e × IfSome a (StartsWith e)
 asked None asks = (event_is.Interrupt, tt, tt)
 asked (Some bytes) (e, rest, is, has, parts) = (e, is, (rest, parts))
-
-not-both : (b : Bool) → b ≡ true → b ≡ false → ⊥
-not-both true p q = absurd cc
-not-both false p q = absurd cc
 
 module _ (p q : Listed) (index : ℕ) (over : Bool) (l : Listing p q index over) where
   begins : (P : List ℕ → Type 0) → IfSome (ahead q.log) P → Begins p.log l.events P
@@ -225,10 +224,9 @@ module _ (p q : Listed) (index : ℕ) (over : Bool) (l : Listing p q index over)
   wrong offset r f at same there = record {
     events = l.events;
     begins = begins (IsWrongAt (ended l.events) (behind l.events) f)
-        (told-then (ahead q.log) (IsWrongAt over q.log.unread.place f)
-        (IsWrongAt (ended l.events) (behind l.events) f)
-        (λ rest w. subst (λ z. IsWrongAt z (behind l.events) f rest) (sym l.over_is)
-        (subst (λ z. IsWrongAt over z f rest) l.place w)) there);
+        (IfSome_then (ahead q.log) there (λ rest w.
+        subst (λ z. IsWrongAt z (behind l.events) f rest) (sym l.over_is)
+        (subst (λ z. IsWrongAt over z f rest) l.place w)));
     index = l.index_is;
     offset = at ∙ l.place;
     due = refl;
@@ -242,16 +240,15 @@ module _ (p q : Listed) (index : ℕ) (over : Bool) (l : Listing p q index over)
   long r same there = record {
     events = l.events;
     begins = begins (IsPastLimit (ended l.events) (behind l.events))
-        (told-then (ahead q.log) (IsPastLimit over q.log.unread.place)
-        (IsPastLimit (ended l.events) (behind l.events))
-        (λ rest w. subst (λ z. IsPastLimit z (behind l.events) rest) (sym l.over_is)
-        (subst (λ z. IsPastLimit over z rest) l.place w)) there);
+        (IfSome_then (ahead q.log) there (λ rest w.
+        subst (λ z. IsPastLimit z (behind l.events) rest) (sym l.over_is)
+        (subst (λ z. IsPastLimit over z rest) l.place w)));
     lines = l.lines;
     unfaulted = unfaulted r same;
   }
 
   unread : (r : Reader) → Breaks q.log r → ListsTo p (listed r q.taken q.faults) LogRead
-  unread r (failed, inl was) = absurd (not-both q.log.unread.failed was.0 l.works)
+  unread r (failed, inl was) = absurd (both_ways q.log.unread.failed l.works was.0)
   unread r (failed, inr now) = record {
     events = l.events;
     begins = begins (λ rest. ⊤) (told-any (ahead q.log));
@@ -265,24 +262,17 @@ module _ (p q : Listed) (index : ℕ) (over : Bool) (l : Listing p q index over)
       → ListsTo p (listed r q.taken q.faults) (stopped_as index x)
   next-stopped r (stream.Parse (parse.Cut offset)) off (run, stays, at, cut) =
       wrong offset r found.Cut at run.faults
-      (told-then (ahead q.log)
-      (λ bytes. (q.log.unread.place + length bytes ≤ 2 ^ 40) × Stops event bytes Cut)
-      (IsWrongAt over q.log.unread.place found.Cut) (λ rest w. (off, w.0, w.1)) cut)
+      (IfSome_then (ahead q.log) cut (λ rest w. (off, w.0, w.1)))
   next-stopped r (stream.Parse (parse.Bad offset rule)) off (run, stays, at, bad) =
       wrong offset r (found.Rule rule) at run.faults
-      (told-then (ahead q.log) (λ bytes. Stops event (to_limit q.log.unread.place bytes) (Bad rule))
-      (IsWrongAt over q.log.unread.place (found.Rule rule)) (λ rest w. (off, w)) bad)
+      (IfSome_then (ahead q.log) bad (λ rest w. (off, w)))
   next-stopped r (stream.Parse parse.NoMemory) off next = absurd next
   next-stopped r stream.Failed off next = unread r next
   next-stopped r stream.TooLong off (past, cut) =
       long r past.faults
-      (told-then (ahead q.log)
-      (λ rest. (2 ^ 40 < q.log.unread.place + length rest)
-      × Stops event (to_limit q.log.unread.place rest) Cut)
-      (IsPastLimit over q.log.unread.place) (λ rest w. (w.0, inl (off, w.1)))
-      (told-both (ahead q.log) (λ rest. 2 ^ 40 < q.log.unread.place + length rest)
+      (IfSome_then (ahead q.log) (told-both (ahead q.log) (λ rest. 2 ^ 40 < q.log.unread.place + length rest)
       (λ rest. Stops event (to_limit q.log.unread.place rest) Cut) (long-ahead q.log r past)
-      (cut l.read)))
+      (cut l.read)) (λ rest w. (w.0, inl (off, w.1))))
   next-stopped r stream.NoMemory off (run, stays, asks) =
       let (e, is, there) = asked (ahead q.log) asks in
       short e r off run.faults is there
@@ -294,10 +284,8 @@ module _ (p q : Listed) (index : ℕ) (over : Bool) (l : Listing p q index over)
   end-stopped r stream.Failed on end = unread r end
   end-stopped r stream.TooLong on (past, full) =
       long r past.faults
-      (told-then (ahead q.log) (λ rest. 2 ^ 40 < q.log.unread.place + length rest)
-      (IsPastLimit over q.log.unread.place)
-      (λ rest more. (more, inr (on, none-within q.log.unread.place rest (full l.read))))
-      (long-ahead q.log r past))
+      (IfSome_then (ahead q.log) (long-ahead q.log r past)
+      (λ rest more. (more, inr (on, none-within q.log.unread.place rest (full l.read)))))
   end-stopped r stream.NoMemory on end = absurd end
 
   pub more-bytes : (r : Reader) (offset : ℕ) → over ≡ true → Ends q.log r (Ok false)
@@ -306,16 +294,15 @@ module _ (p q : Listed) (index : ℕ) (over : Bool) (l : Listing p q index over)
   more-bytes r offset on (run, stays, held, some) at =
       let room : q.log.unread.place < 2 ^ 40 = omega (arith, run.read, held, stays.place) in
       wrong offset r found.MoreBytes (at ∙ stays.place) run.faults
-      (told-then (ahead q.log) (λ rest. 0 < length rest)
-      (IsWrongAt over q.log.unread.place found.MoreBytes)
-      (λ rest w. (on, some-within q.log.unread.place rest room w)) some)
+      (IfSome_then (ahead q.log) some
+      (λ rest w. (on, some-within q.log.unread.place rest room w)))
 
   pub whole : (r : Reader) → over ≡ true → Ends q.log r (Ok true)
       → ListsTo p (listed r q.taken q.faults) Whole
   whole r on (run, stays, none) = record {
     events = l.events;
     begins = begins (λ rest. rest ≡ [])
-        (told-then (ahead q.log) (λ rest. length rest ≡ 0) (λ rest. rest ≡ []) none-of none);
+        (IfSome_then (ahead q.log) none nil_from_length);
     over = l.over_is ∙ on;
     lines = l.lines;
     unfaulted = unfaulted r run.faults;

@@ -3,13 +3,8 @@ use Rattle.std.proofs.Common.{◌≡◌, ◌≢◌, ℕ, ◌+◌, ◌-◌, ◌^�
 use Rattle.std.specs.Prelude.{Some, None, IfSome, ⊤}
 use Rattle.std.specs.declared.option.Option.{Option}
 use Rattle.std.specs.Io.KnownBytes.{Consumes, Keeps, prepend_known}
-use Rattle.std.proofs.lemmas.List.{length-take}
+use Rattle.std.proofs.lemmas.List.{length-take, nil_from_length}
 use Rattle.event_log.specs.Reading.{Reader, ahead, to_limit, IsLong}
-
-pub told-then : (a : Option (List ℕ)) (P Q : List ℕ → Type 0) → ((bytes : List ℕ) → P bytes → Q bytes)
-    → IfSome a P → IfSome a Q
-told-then None P Q f h = tt
-told-then (Some x) P Q f h = f x h
 
 pub told-both : (a : Option (List ℕ)) (P Q : List ℕ → Type 0) → IfSome a P → IfSome a Q
     → IfSome a (λ bytes. P bytes × Q bytes)
@@ -34,10 +29,6 @@ told-front None b xs c = tt
 told-front (Some x) None xs c = absurd c
 told-front (Some x) (Some y) xs c = (y, c)
 
-pub none-of : (xs : List ℕ) → length xs ≡ 0 → xs ≡ []
-none-of [] e = refl
-none-of (x ∷ xs) e = absurd (omega (arith, e))
-
 -- some bytes before the limit
 pub some-within : (place : ℕ) (xs : List ℕ) → place < 2 ^ 40 → 0 < length xs → to_limit place xs ≢ []
 some-within place xs room some none =
@@ -46,7 +37,7 @@ some-within place xs room some none =
 -- no byte before the limit
 pub none-within : (place : ℕ) (xs : List ℕ) → place ≡ 2 ^ 40 → to_limit place xs ≡ []
 none-within place xs full =
-    none-of (to_limit place xs) (omega (arith, full, length-take (2 ^ 40 - place) xs))
+    nil_from_length (to_limit place xs) (omega (arith, full, length-take (2 ^ 40 - place) xs))
 
 long-rest : (held : List ℕ) (left a : Option (List ℕ)) (place : ℕ) → Keeps a (prepend_known held left)
     → 2 ^ 40 < place + length held → IfSome a (λ rest. 2 ^ 40 < place + length rest)

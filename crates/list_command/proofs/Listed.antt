@@ -1,5 +1,6 @@
 -- What a list over a world comes to: by its log's header, and by how it ended.
 use Rattle.std.proofs.Common.{◌≡◌, ◌+◌, ◌^◌, ◌≤◌, ℕ, false, List, [], ◌∷◌, ◌++◌, length, drop, refl, sym, ap, ◌∙◌, subst, arith, append_assoc, append-nil}
+use Rattle.std.proofs.lemmas.Option.{IfSome_then}
 use Rattle.std.specs.Prelude.{Some, None, IfSome, ⊤}
 use Rattle.std.specs.declared.option.Option.{Option}
 use Rattle.std.specs.Io.KnownBytes.{Consumes}
@@ -25,7 +26,7 @@ use Rattle.run_files.specs.Headers.{HasHeader}
 use Rattle.commands.specs.Faults.{Fault, fault_of}
 use Rattle.commands.specs.declared.outcome.Outcome.{Outcome}
 use Rattle.commands.proofs.LogLimits.{log-length}
-use Rattle.commands.proofs.Replayed.{if-some, headed}
+use Rattle.run_files.proofs.Headed.{headed}
 use Rattle.list_command.specs.Lists.{HasEvents, IsListed, IsListedToWrong, IsListedToLimit, IsShownFront, ListCause, ListingKeptBut, list_outcome_of}
 
 -- ---- the log's bytes
@@ -45,8 +46,8 @@ record Told (bytes : List ℕ) (reader : Reader) : Type 0 where
 if-told : {P : List ℕ → Type 0} (log : Option (List ℕ)) (reader : Reader) → Headed log reader
     → ((bytes : List ℕ) → Told bytes reader → P bytes) → IfSome log P
 if-told log reader h make =
-    if-some log (λ bytes t. make bytes (record { header = h.header; has = t.0; left = t.1 }))
-    (headed log (ahead reader) h.header h.is h.passed)
+    IfSome_then log (headed log (ahead reader) h.header h.is h.passed)
+    (λ bytes t. make bytes (record { header = h.header; has = t.0; left = t.1 }))
 
 has-events : (bytes : List ℕ) (reader : Reader) (events : List Event) (P : List ℕ → Type 0)
     → Told bytes reader → Begins reader events P → HasEvents bytes events P

@@ -1,7 +1,9 @@
 -- The header at the front of a log, and what follows it.
 use Rattle.std.proofs.Common.{◌≡◌, ℕ, List, ◌++◌, drop, sym, ap, ◌∙◌}
 use Rattle.std.proofs.Math.Seq.{drop-append_seam}
-use Rattle.std.specs.Prelude.{Result, Ok}
+use Rattle.std.specs.Prelude.{Some, None, IfSome, Result, Ok}
+use Rattle.std.specs.declared.option.Option.{Option}
+use Rattle.std.specs.Io.KnownBytes.{Consumes}
 use Rattle.event_log.specs.declared.header.Header.{Header}
 use Rattle.event_log.specs.declared.parse.ParseError.{ParseError}
 use Rattle.event_log.specs.HeaderFormat.{IsHeader, header_text}
@@ -23,6 +25,14 @@ begins h log rest is parts = record {
   is = is;
   stands = parts ∙ ap (λ (z : List ℕ). header_text h ++ z) (sym (behind-text h log rest is parts));
 }
+
+-- a header that was read stands at the front of the log, and the rest is ahead
+pub headed : (o rest : Option (List ℕ)) (h : Header) → IsHeader h → Consumes o rest (header_text h)
+    → IfSome o (λ log. HasHeader log h × (rest ≡ Some (drop 98 log)))
+headed None rest h is c = tt
+headed (Some log) None h is c = absurd c
+headed (Some log) (Some rest) h is c =
+    (begins h log rest is c, ap Some (sym (behind-text h log rest is c)))
 
 abbrev header_is : Header → Result Header ParseError
 header_is h = Ok h

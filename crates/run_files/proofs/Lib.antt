@@ -1,4 +1,3 @@
 pub mod Roles
-pub mod ReadLemmas
 pub mod FileHeld
 pub mod Headed
