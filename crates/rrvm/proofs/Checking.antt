@@ -1,29 +1,23 @@
 -- A check whose images are those of its log's header, where no count of faults rises: a log that is
 -- accepted whole gives status 0, and one with a first wrong event is refused.
-use Rattle.std.proofs.Common.{◌≡◌, ◌≤◌, ◌⊎◌, inl, inr, ℕ, List, drop, refl, sym, subst, arith}
+use Rattle.std.proofs.Common.{◌≡◌, ◌⊎◌, inl, inr, ℕ, List, refl, sym, subst, arith}
 use Rattle.std.specs.Prelude.{Some}
-use Rattle.outside.specs.Causes.{Rose}
 use Rattle.outside.specs.Ledger.{Ledger}
-use Rattle.outside.specs.Roles.{at}
-use Rattle.outside.specs.declared.roles.Role.TheVariants.{LogIn}
 use Rattle.command_line.specs.Words.{Replaying, Run, Reading, Checks}
 use Rattle.elf_load.specs.declared.pieces.Loaded.{Loaded}
 use Rattle.event_log.specs.declared.header.Header.{Header}
-use Rattle.board.specs.State.{State}
-use Rattle.board.specs.Reset.{start_of}
 use Rattle.log_order.specs.declared.refusal.Refusal.{Refusal}
-use Rattle.log_order.specs.Order.{IsWhole}
 use Rattle.run_files.specs.Ledgers.{CountsStood}
 use Rattle.commands.specs.Asking.{replaying_of}
 use Rattle.commands.specs.Outcomes.{status_of}
-use Rattle.commands.specs.Replays.{Starts, IsTooLong, IsUndecided, IsReplayable, IsRefusable, read_of}
+use Rattle.commands.specs.Replays.{Starts, IsTooLong, IsReplayable, IsRefusable}
 use Rattle.commands.specs.declared.outcome.Outcome.{Outcome}
 use Rattle.commands.specs.declared.outcome.Outcome.TheVariants.{Printed, CannotOpen, CannotRead, LogUnreadable, BadFirmware, HeaderRefused, LogRefused, ImagesDiffer, LogTooLong, QuietFailed, NoMemory}
 use Rattle.check_command.specs.Checks.{CheckCause, IsAccepted, IsChecked, IsRefusedAt}
 use Rattle.check_command.specs.declared.tally.Tally.{Tally}
 use Rattle.rrvm.specs.Answers.{Explained}
 use Rattle.rrvm.specs.Causes.{Cause}
-use Rattle.rrvm.proofs.Completing.{both-told, rose-stood, never-early, same-start, whole-not-wrong, long-not-wrong}
+use Rattle.rrvm.proofs.Completing.{both-told, rose-stood, never-early, whole-refused, long-refused}
 
 -- the status of a log that is accepted, is refused, or is too long; or memory is refused
 abbrev Judged : Replaying → List ℕ → List ℕ → ℕ → Type 0
@@ -65,13 +59,13 @@ judged r log file h f old new (ImagesDiffer which) told held s stood k =
     absurd (never-early r log file h f old new (ImagesDiffer which) told held s stood tt k)
 judged r log file h f old new outcome told held s stood k = absurd k
 
-explained-judged : (words : List (List ℕ)) (line : Reading) (old new : Ledger) (status : ℕ)
+explained-judged : {words : List (List ℕ)} {line : Reading} {old new : Ledger} {status : ℕ}
     → Explained words line old new status
     → (r : Run) (log file : List ℕ) (h : Header) (f : Loaded) → line ≡ Checks r
     → old.names r.log ≡ Some log → old.names r.bios ≡ Some file
     → Starts (replaying_of r.log r.bios) log file h f
     → CountsStood old new → Judged (replaying_of r.log r.bios) log file status
-explained-judged words line old new status x r log file h f asks told held s stood =
+explained-judged {old = old} {new = new} x r log file h f asks told held s stood =
     let cause = subst (λ (z : Reading). Cause z old new x.outcome) asks x.cause in
     subst (λ (z : ℕ). Judged (replaying_of r.log r.bios) log file z) (sym x.is_status)
     (judged (replaying_of r.log r.bios) log file h f old new x.outcome told held s stood cause)
@@ -81,11 +75,7 @@ accepts : (r : Replaying) (log file : List ℕ) (reason code status : ℕ)
     → (status ≡ 0) ⊎ (status ≡ 30)
 accepts r log file reason code status x (inl (k, e)) = inl e
 accepts r log file reason code status x (inr (inl (refusal, k, e))) =
-    let start = same-start r log file x.header k.header x.firmware k.firmware x.starts k.starts in
-    let whole : IsWhole (drop 98 log) (start_of k.header k.firmware) x.last =
-    subst (λ (z : State). IsWhole (drop 98 log) z x.last) start x.whole in
-    absurd (whole-not-wrong log (start_of k.header k.firmware) x.last k.mid k.last refusal x.short
-    whole k.wrong)
+    absurd (whole-refused r log file x.starts x.short x.whole k.starts k.wrong)
 accepts r log file reason code status x (inr (inr (inl (k, e)))) =
     absurd (omega (arith, k.long, x.short))
 accepts r log file reason code status x (inr (inr (inr e))) = inr e
@@ -93,36 +83,28 @@ accepts r log file reason code status x (inr (inr (inr e))) = inr e
 refuses : (r : Replaying) (log file : List ℕ) (status : ℕ) → IsRefusable r log file
     → Judged r log file status → (status ≡ 20) ⊎ (status ≡ 30)
 refuses r log file status x (inl ((t, k), e)) =
-    let start = same-start r log file k.header x.header k.firmware x.firmware k.starts x.starts in
-    let whole : IsWhole (drop 98 log) (start_of x.header x.firmware) k.last =
-    subst (λ (z : State). IsWhole (drop 98 log) z k.last) start k.whole in
-    absurd (whole-not-wrong log (start_of x.header x.firmware) k.last x.mid x.last x.refusal k.short
-    whole x.wrong)
+    absurd (whole-refused r log file k.starts k.short k.whole x.starts x.wrong)
 refuses r log file status x (inr (inl (refusal, k, e))) = inl e
 refuses r log file status x (inr (inr (inl (k, e)))) =
-    let start = same-start r log file k.header x.header k.firmware x.firmware k.starts x.starts in
-    absurd (long-not-wrong log (start_of x.header x.firmware) k.last x.mid x.last x.refusal k.long
-    (subst (λ (z : State). IsUndecided (drop 98 (read_of log)) z k.last) start k.undecided) x.wrong)
+    absurd (long-refused r log file k.starts k.long k.undecided x.starts x.wrong)
 refuses r log file status x (inr (inr (inr e))) = inr e
 
-pub accepts-told : (words : List (List ℕ)) (line : Reading) (old new : Ledger) (status : ℕ)
+pub accepts-told : {words : List (List ℕ)} {line : Reading} {old new : Ledger} {status : ℕ}
     → Explained words line old new status
     → (r : Run) (log file : List ℕ) (reason code : ℕ) → line ≡ Checks r
     → old.names r.log ≡ Some log → old.names r.bios ≡ Some file
     → IsReplayable (replaying_of r.log r.bios) log file reason code → CountsStood old new
     → (status ≡ 0) ⊎ (status ≡ 30)
-accepts-told words line old new status e r log file reason code asks told held x stood =
+accepts-told {status = status} e r log file reason code asks told held x stood =
     accepts (replaying_of r.log r.bios) log file reason code status x
-    (explained-judged words line old new status e r log file x.header x.firmware asks told held
-    x.starts stood)
+    (explained-judged e r log file x.header x.firmware asks told held x.starts stood)
 
-pub rejects-told : (words : List (List ℕ)) (line : Reading) (old new : Ledger) (status : ℕ)
+pub rejects-told : {words : List (List ℕ)} {line : Reading} {old new : Ledger} {status : ℕ}
     → Explained words line old new status
     → (r : Run) (log file : List ℕ) → line ≡ Checks r
     → old.names r.log ≡ Some log → old.names r.bios ≡ Some file
     → IsRefusable (replaying_of r.log r.bios) log file → CountsStood old new
     → (status ≡ 20) ⊎ (status ≡ 30)
-rejects-told words line old new status e r log file asks told held x stood =
+rejects-told {status = status} e r log file asks told held x stood =
     refuses (replaying_of r.log r.bios) log file status x
-    (explained-judged words line old new status e r log file x.header x.firmware asks told held
-    x.starts stood)
+    (explained-judged e r log file x.header x.firmware asks told held x.starts stood)

@@ -1,7 +1,7 @@
 -- A replay whose words and images are those of its log's header, where no count of faults rises: a
 -- log that is accepted whole gives the status of its END, one with a first wrong event is refused,
 -- and one that is longer than what is read and not wrong so far is too long.
-use Rattle.std.proofs.Common.{◌≡◌, ◌<◌, ◌^◌, ◌+◌, ◌≤◌, ◌⊎◌, inl, inr, ℕ, List, [], ◌∷◌, ◌++◌, length, drop, refl, sym, ap, ◌∙◌, subst, arith, append_assoc}
+use Rattle.std.proofs.Common.{◌≡◌, ◌<◌, ◌^◌, ◌≤◌, ◌⊎◌, inl, inr, ℕ, List, length, drop, refl, sym, ap, ◌∙◌, subst, arith}
 use Rattle.std.specs.Prelude.{Some, None, Result, Ok, Err, IfSome, ⊤}
 use Rattle.std.specs.declared.option.Option.{Option}
 use Rattle.outside.specs.Causes.{Rose, Stood}
@@ -12,24 +12,19 @@ use Rattle.command_line.specs.Words.{Replaying, Reading, Replays}
 use Rattle.elf_load.specs.declared.error.LoadError.{LoadError}
 use Rattle.elf_load.specs.declared.pieces.Loaded.{Loaded}
 use Rattle.elf_load.specs.Load.{loaded}
-use Rattle.event_log.specs.declared.event.Event.{Event}
 use Rattle.event_log.specs.declared.header.Header.{Header}
-use Rattle.event_log.specs.declared.parse.ParseError.{ParseError}
 use Rattle.event_log.specs.declared.parse.ParseError.TheVariants as parse
-use Rattle.event_log.specs.Spelling.{texts}
 use Rattle.event_log.proofs.HeaderLaws.{one_headers}
-use Rattle.board.specs.Due.{due}
 use Rattle.board.specs.State.{State}
 use Rattle.board.specs.declared.control.Ending.{Ending}
 use Rattle.board.specs.Reset.{start_of}
-use Rattle.log_order.specs.declared.refusal.Found.TheVariants as found
 use Rattle.log_order.specs.declared.refusal.Refusal.{Refusal}
 use Rattle.log_order.specs.Order.{IsFirstWrong, IsWhole}
 use Rattle.log_order.proofs.Verdicts.{one-whole, whole-right, one-wrong}
 use Rattle.run_files.specs.declared.difference.Difference.{Difference}
 use Rattle.run_files.specs.declared.difference.Difference.TheVariants as difference
 use Rattle.commands.specs.declared.outcome.Outcome.{Outcome}
-use Rattle.commands.specs.declared.outcome.Outcome.TheVariants.{Printed, GuestEnded, IdleForEver, BudgetReached, BadWord, WordsMissing, CannotOpen, CannotRead, ConsoleUnreadable, ConsoleFailed, LogFailed, LogUnreadable, BadFirmware, RecordingStopped, HeaderRefused, LogRefused, ImagesDiffer, LogTooLong, QuietFailed, CommandsUnreadable, TooMuchInput, NoMemory}
+use Rattle.commands.specs.declared.outcome.Outcome.TheVariants.{GuestEnded, IdleForEver, BudgetReached, CannotOpen, CannotRead, ConsoleFailed, LogUnreadable, BadFirmware, RecordingStopped, HeaderRefused, LogRefused, ImagesDiffer, LogTooLong, NoMemory}
 use Rattle.run_files.specs.Ledgers.{CountsStood}
 use Rattle.commands.specs.Outcomes.{status_of}
 use Rattle.run_files.specs.Images.{IsBadImage}
@@ -140,6 +135,27 @@ no-difference r log file held h k f which told s has d =
     (subst (λ (z : Header). IsDifferent r z (Some file) which) header
     (subst (λ (z : Option (List ℕ)). IsDifferent r k z which) told d))
 
+-- a log that is accepted whole from its images has no first wrong event
+pub whole-refused : (r : Replaying) (log file : List ℕ) {h k : Header} {f g : Loaded}
+    {last mid wrong : State} {refusal : Refusal}
+    → Starts r log file h f → length log ≤ 2 ^ 40 → IsWhole (drop 98 log) (start_of h f) last
+    → Starts r log file k g → IsWrongLog log (start_of k g) refusal mid wrong → ⊥
+whole-refused r log file {h} {k} {f} {g} {last} {mid} {wrong} {refusal} s short whole t x =
+    whole-not-wrong log (start_of k g) last mid wrong refusal short
+    (subst (λ (z : State). IsWhole (drop 98 log) z last) (same-start r log file h k f g s t) whole)
+    x
+
+-- the same of one that is longer than what is read
+pub long-refused : (r : Replaying) (log file : List ℕ) {h k : Header} {f g : Loaded}
+    {there mid wrong : State} {refusal : Refusal}
+    → Starts r log file h f → 2 ^ 40 < length log
+    → IsUndecided (drop 98 (read_of log)) (start_of h f) there
+    → Starts r log file k g → IsWrongLog log (start_of k g) refusal mid wrong → ⊥
+long-refused r log file {h} {k} {f} {g} {there} {mid} {wrong} {refusal} s long undecided t x =
+    long-not-wrong log (start_of k g) there mid wrong refusal long
+    (subst (λ (z : State). IsUndecided (drop 98 (read_of log)) z there)
+    (same-start r log file h k f g s t) undecided) x
+
 -- ---- what comes to a replay that starts
 
 pub if-told : (o : Option (List ℕ)) (log : List ℕ) (P : List ℕ → Type 0) → o ≡ Some log → IfSome o P
@@ -246,12 +262,12 @@ comes r log file h f old new (ImagesDiffer which) told held s stood k =
     absurd (never-early r log file h f old new (ImagesDiffer which) told held s stood tt k)
 comes r log file h f old new outcome told held s stood k = absurd k
 
-explained-comes : (words : List (List ℕ)) (line : Reading) (old new : Ledger) (status : ℕ)
+explained-comes : {words : List (List ℕ)} {line : Reading} {old new : Ledger} {status : ℕ}
     → Explained words line old new status
     → (r : Replaying) (log file : List ℕ) (h : Header) (f : Loaded) → line ≡ Replays r
     → old.names r.log ≡ Some log → old.names r.bios ≡ Some file → Starts r log file h f
     → CountsStood old new → Comes r log file new status
-explained-comes words line old new status x r log file h f asks told held s stood =
+explained-comes {old = old} {new = new} x r log file h f asks told held s stood =
     let cause = subst (λ (z : Reading). Cause z old new x.outcome) asks x.cause in
     subst (λ (z : ℕ). Comes r log file new z) (sym x.is_status)
     (comes r log file h f old new x.outcome told held s stood cause)
@@ -268,11 +284,7 @@ replays-comes r log file new reason code status x (inl (m, n, k, e)) =
     let last = one-whole (drop 98 log) (start_of x.header x.firmware) k.last x.last whole x.whole in
     inl (e ∙ ending-same k.last x.last m n reason code last k.ended x.ended)
 replays-comes r log file new reason code status x (inr (inl (refusal, k, e))) =
-    let start = same-start r log file x.header k.header x.firmware k.firmware x.starts k.starts in
-    let whole : IsWhole (drop 98 log) (start_of k.header k.firmware) x.last =
-    subst (λ (z : State). IsWhole (drop 98 log) z x.last) start x.whole in
-    absurd (whole-not-wrong log (start_of k.header k.firmware) x.last k.mid k.last refusal x.short
-    whole k.wrong)
+    absurd (whole-refused r log file x.starts x.short x.whole k.starts k.wrong)
 replays-comes r log file new reason code status x (inr (inr (inl (k, e)))) =
     absurd (omega (arith, k.long, x.short))
 replays-comes r log file new reason code status x (inr (inr (inr e))) = inr e
@@ -280,57 +292,46 @@ replays-comes r log file new reason code status x (inr (inr (inr e))) = inr e
 refuses-comes : (r : Replaying) (log file : List ℕ) (new : Ledger) (status : ℕ)
     → IsRefusable r log file → Comes r log file new status → (status ≡ 20) ⊎ (status ≡ 30)
 refuses-comes r log file new status x (inl (m, n, k, e)) =
-    let start = same-start r log file k.header x.header k.firmware x.firmware k.starts x.starts in
-    let whole : IsWhole (drop 98 log) (start_of x.header x.firmware) k.last =
-    subst (λ (z : State). IsWhole (drop 98 log) z k.last) start k.whole in
-    absurd (whole-not-wrong log (start_of x.header x.firmware) k.last x.mid x.last x.refusal k.short
-    whole x.wrong)
+    absurd (whole-refused r log file k.starts k.short k.whole x.starts x.wrong)
 refuses-comes r log file new status x (inr (inl (refusal, k, e))) = inl e
 refuses-comes r log file new status x (inr (inr (inl (k, e)))) =
-    let start = same-start r log file k.header x.header k.firmware x.firmware k.starts x.starts in
-    absurd (long-not-wrong log (start_of x.header x.firmware) k.last x.mid x.last x.refusal k.long
-    (subst (λ (z : State). IsUndecided (drop 98 (read_of log)) z k.last) start k.undecided) x.wrong)
+    absurd (long-refused r log file k.starts k.long k.undecided x.starts x.wrong)
 refuses-comes r log file new status x (inr (inr (inr e))) = inr e
 
 long-comes : (r : Replaying) (log file : List ℕ) (new : Ledger) (status : ℕ)
     → IsTooLong r log file → Comes r log file new status → (status ≡ 22) ⊎ (status ≡ 30)
 long-comes r log file new status x (inl (m, n, k, e)) = absurd (omega (arith, x.long, k.short))
 long-comes r log file new status x (inr (inl (refusal, k, e))) =
-    let start = same-start r log file x.header k.header x.firmware k.firmware x.starts k.starts in
-    absurd (long-not-wrong log (start_of k.header k.firmware) x.last k.mid k.last refusal x.long
-    (subst (λ (z : State). IsUndecided (drop 98 (read_of log)) z x.last) start x.undecided) k.wrong)
+    absurd (long-refused r log file x.starts x.long x.undecided k.starts k.wrong)
 long-comes r log file new status x (inr (inr (inl (k, e)))) = inl e
 long-comes r log file new status x (inr (inr (inr e))) = inr e
 
-pub replays-told : (words : List (List ℕ)) (line : Reading) (old new : Ledger) (status : ℕ)
+pub replays-told : {words : List (List ℕ)} {line : Reading} {old new : Ledger} {status : ℕ}
     → Explained words line old new status
     → (r : Replaying) (log file : List ℕ) (reason code : ℕ) → line ≡ Replays r
     → old.names r.log ≡ Some log → old.names r.bios ≡ Some file
     → IsReplayable r log file reason code → CountsStood old new
     → (status ≡ ending_status reason code) ⊎ (status ≡ 30)
-replays-told words line old new status e r log file reason code asks told held x stood =
+replays-told {new = new} {status = status} e r log file reason code asks told held x stood =
     replays-comes r log file new reason code status x
-    (explained-comes words line old new status e r log file x.header x.firmware asks told held
-    x.starts stood)
+    (explained-comes e r log file x.header x.firmware asks told held x.starts stood)
 
-pub refuses-told : (words : List (List ℕ)) (line : Reading) (old new : Ledger) (status : ℕ)
+pub refuses-told : {words : List (List ℕ)} {line : Reading} {old new : Ledger} {status : ℕ}
     → Explained words line old new status
     → (r : Replaying) (log file : List ℕ) → line ≡ Replays r
     → old.names r.log ≡ Some log → old.names r.bios ≡ Some file
     → IsRefusable r log file → CountsStood old new
     → (status ≡ 20) ⊎ (status ≡ 30)
-refuses-told words line old new status e r log file asks told held x stood =
+refuses-told {new = new} {status = status} e r log file asks told held x stood =
     refuses-comes r log file new status x
-    (explained-comes words line old new status e r log file x.header x.firmware asks told held
-    x.starts stood)
+    (explained-comes e r log file x.header x.firmware asks told held x.starts stood)
 
-pub long-told : (words : List (List ℕ)) (line : Reading) (old new : Ledger) (status : ℕ)
+pub long-told : {words : List (List ℕ)} {line : Reading} {old new : Ledger} {status : ℕ}
     → Explained words line old new status
     → (r : Replaying) (log file : List ℕ) → line ≡ Replays r
     → old.names r.log ≡ Some log → old.names r.bios ≡ Some file
     → IsTooLong r log file → CountsStood old new
     → (status ≡ 22) ⊎ (status ≡ 30)
-long-told words line old new status e r log file asks told held x stood =
+long-told {new = new} {status = status} e r log file asks told held x stood =
     long-comes r log file new status x
-    (explained-comes words line old new status e r log file x.header x.firmware asks told held
-    x.starts stood)
+    (explained-comes e r log file x.header x.firmware asks told held x.starts stood)

@@ -1,20 +1,20 @@
 -- A debugging session whose images are those of its log's header, where no count of faults rises and
 -- standard input has no more than a session reads: over a log that is accepted whole it gives status
 -- 0, and over one with a first wrong event status 20.
-use Rattle.std.proofs.Common.{◌≡◌, ◌<◌, ◌≤◌, ◌^◌, ◌+◌, ◌⊎◌, inl, inr, ℕ, List, ◌++◌, length, take, drop, refl, sym, ap, ◌∙◌, subst, arith, length-append}
+use Rattle.std.proofs.Common.{◌≡◌, ◌<◌, ◌≤◌, ◌^◌, ◌+◌, ◌⊎◌, inl, inr, ℕ, List, length, drop, refl, sym, ap, subst, arith, length-append}
 use Rattle.std.specs.Prelude.{Some, None}
 use Rattle.std.specs.declared.option.Option.{Option}
 use Rattle.std.specs.Io.KnownBytes.{Consumes}
 use Rattle.outside.specs.Ledger.{Ledger}
 use Rattle.outside.specs.Roles.{at}
-use Rattle.outside.specs.declared.roles.Role.TheVariants.{ConsoleIn, ConsoleOut, LogIn, Firmware}
+use Rattle.outside.specs.declared.roles.Role.TheVariants.{ConsoleIn, LogIn, Firmware}
 use Rattle.command_line.specs.Words.{Run, Reading, Debugs}
 use Rattle.elf_load.specs.declared.pieces.Loaded.{Loaded}
 use Rattle.event_log.specs.declared.header.Header.{Header}
 use Rattle.board.specs.State.{State}
 use Rattle.board.specs.Reset.{start_of}
 use Rattle.log_order.specs.declared.refusal.Refusal.{Refusal}
-use Rattle.log_order.specs.Order.{IsFirstWrong, IsWhole}
+use Rattle.log_order.specs.Order.{IsWhole}
 use Rattle.log_order.proofs.Verdicts.{whole-right}
 use Rattle.reverse_seek.specs.Script.{Script}
 use Rattle.monitor.specs.Serving.{most}
@@ -24,17 +24,16 @@ use Rattle.run_files.specs.declared.images.ImageFault.TheVariants as image
 use Rattle.run_files.specs.Headers.{HasHeader, IsBadHeader}
 use Rattle.run_files.specs.Images.{IsImageFault}
 use Rattle.commands.specs.Asking.{replaying_of}
-use Rattle.commands.specs.Causes.{IfBoth}
 use Rattle.commands.specs.Outcomes.{status_of}
 use Rattle.commands.specs.Replays.{Starts, IsDifferent, IsReplayable, IsRefusable}
 use Rattle.commands.specs.declared.outcome.Outcome.{Outcome}
 use Rattle.commands.specs.declared.outcome.Outcome.TheVariants.{Printed, CannotOpen, CannotRead, LogUnreadable, BadFirmware, HeaderRefused, LogRefused, ImagesDiffer, LogTooLong, QuietFailed, CommandsUnreadable, TooMuchInput, NoMemory}
 use Rattle.debug_command.specs.declared.debugging.TheConstants.{LOG_LIMIT}
-use Rattle.debug_command.specs.Causes.{DebugCause, IsOtherImage}
+use Rattle.debug_command.specs.Causes.{DebugCause}
 use Rattle.debug_command.specs.Debugs.{IsAcceptedPart, IsHeld}
 use Rattle.rrvm.specs.Answers.{Explained, DebugsFreely}
 use Rattle.rrvm.specs.Causes.{Cause}
-use Rattle.rrvm.proofs.Completing.{if-told, both-told, rose-stood, no-bad-header, no-bad-image, no-difference, same-start, whole-not-wrong}
+use Rattle.rrvm.proofs.Completing.{if-told, both-told, rose-stood, no-bad-header, no-bad-image, no-difference, same-start, whole-refused}
 use Rattle.monitor.specs.declared.sessions.SessionEnd.TheVariants as session_end
 
 -- the status of a session over a log that is accepted whole, or is refused; or memory is refused
@@ -121,12 +120,12 @@ comes r log file input h f old new TooMuchInput x s k =
 comes r log file input h f old new NoMemory x s k = inr (inr refl)
 comes r log file input h f old new outcome x s k = absurd k
 
-explained-comes : (words : List (List ℕ)) (line : Reading) (old new : Ledger) (status : ℕ)
+explained-comes : {words : List (List ℕ)} {line : Reading} {old new : Ledger} {status : ℕ}
     → Explained words line old new status
     → (r : Run) (log file input : List ℕ) (h : Header) (f : Loaded) → line ≡ Debugs r
     → DebugsFreely r log file input old new → Starts (replaying_of r.log r.bios) log file h f
     → Held log file status
-explained-comes words line old new status e r log file input h f asks x s =
+explained-comes {old = old} {new = new} e r log file input h f asks x s =
     let cause = subst (λ (z : Reading). Cause z old new e.outcome) asks e.cause in
     subst (λ (z : ℕ). Held log file z) (sym e.is_status)
     (comes r log file input h f old new e.outcome x s cause)
@@ -156,35 +155,30 @@ rejects : (r : Run) (log file : List ℕ) (status : ℕ) → length log ≤ 2 ^ 
     → IsRefusable (replaying_of r.log r.bios) log file → Held log file status
     → (status ≡ 20) ⊎ (status ≡ 30)
 rejects r log file status short x (inl ((s, p), e)) =
-    let start = same-start (replaying_of r.log r.bios) log file p.header x.header p.firmware
-    x.firmware (part-starts r log file s None p) x.starts in
-    let whole = p.reads.verdict in
-    absurd (whole-not-wrong log (start_of x.header x.firmware) whole.0 x.mid x.last x.refusal short
-    (subst (λ (z : State). IsWhole (drop 98 log) z whole.0) start whole.1) x.wrong)
+    absurd (whole-refused (replaying_of r.log r.bios) log file (part-starts r log file s None p)
+    short p.reads.verdict.1 x.starts x.wrong)
 rejects r log file status short x (inr (inl (s, refusal, p, e))) = inl e
 rejects r log file status short x (inr (inr e)) = inr e
 
 limit-read : LOG_LIMIT ≤ 2 ^ 40
 limit-read = omega arith
 
-pub holds-accepted : (words : List (List ℕ)) (line : Reading) (old new : Ledger) (status : ℕ)
+pub holds-accepted : {words : List (List ℕ)} {line : Reading} {old new : Ledger} {status : ℕ}
     → Explained words line old new status
     → (r : Run) (log file input : List ℕ) (reason code : ℕ) → line ≡ Debugs r
     → DebugsFreely r log file input old new
     → IsReplayable (replaying_of r.log r.bios) log file reason code
     → (status ≡ 0) ⊎ (status ≡ 30)
-holds-accepted words line old new status e r log file input reason code asks holds x =
+holds-accepted {status = status} e r log file input reason code asks holds x =
     accepts r log file reason code status x
-    (explained-comes words line old new status e r log file input x.header x.firmware asks holds
-    x.starts)
+    (explained-comes e r log file input x.header x.firmware asks holds x.starts)
 
-pub holds-refused : (words : List (List ℕ)) (line : Reading) (old new : Ledger) (status : ℕ)
+pub holds-refused : {words : List (List ℕ)} {line : Reading} {old new : Ledger} {status : ℕ}
     → Explained words line old new status
     → (r : Run) (log file input : List ℕ) → line ≡ Debugs r
     → DebugsFreely r log file input old new
     → IsRefusable (replaying_of r.log r.bios) log file
     → (status ≡ 20) ⊎ (status ≡ 30)
-holds-refused words line old new status e r log file input asks holds x =
+holds-refused {status = status} e r log file input asks holds x =
     rejects r log file status (omega (arith, holds.short, limit-read)) x
-    (explained-comes words line old new status e r log file input x.header x.firmware asks holds
-    x.starts)
+    (explained-comes e r log file input x.header x.firmware asks holds x.starts)

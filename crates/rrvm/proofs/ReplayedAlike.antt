@@ -1,7 +1,6 @@
 -- A replay of a recorded log comes to the recording's end.
-use Rattle.std.proofs.Common.{◌≡◌, ◌≤◌, ◌^◌, ◌⊎◌, inl, inr, ℕ, Bool, true, List, [], ◌++◌, length, drop, refl, sym, ap, ◌∙◌, subst, arith}
+use Rattle.std.proofs.Common.{◌≡◌, ◌≤◌, ◌^◌, inl, inr, ℕ, Bool, true, List, [], ◌++◌, length, drop, refl, sym, ap, ◌∙◌, subst, arith}
 use Rattle.std.specs.Prelude.{Some, ◌||◌, ◌==◌}
-use Rattle.sha2.specs.Sha256.{sha256}
 use Rattle.sha2.proofs.Facts256.{length-sha256}
 use Rattle.outside.specs.Ledger.{Ledger}
 use Rattle.outside.specs.Roles.{at}
@@ -155,13 +154,13 @@ ended r old new CommandsUnreadable k run = absurd k
 ended r old new TooMuchInput k run = absurd k
 ended r old new NoMemory k run = let no = runs-so 30 run in absurd cc
 
-pub replayable-told : (words : List (List ℕ)) (line : Reading) (old new : Ledger) (status : ℕ)
+pub replayable-told : {words : List (List ℕ)} {line : Reading} {old new : Ledger} {status : ℕ}
     → Explained words line old new status → IsLineInRange line → HasRun status
     → (r : Recording) (log file : List ℕ) → line ≡ Records r → old.names r.bios ≡ Some file
     → at new.last LogOut ≡ Some log → length log ≤ 2 ^ 40
     → (reason : ℕ) × (code : ℕ) × (status ≡ ending_status reason code)
     × IsReplayedAlike r log file new reason code
-replayable-told words line old new status e ranged run r log file asks held taken short =
+replayable-told {old = old} {new = new} e ranged run r log file asks held taken short =
     let cause : RecordCause r old new e.outcome =
     subst (λ (z : Reading). Cause z old new e.outcome) asks e.cause in
     let x = ended r old new e.outcome cause (subst HasRun e.is_status run) in

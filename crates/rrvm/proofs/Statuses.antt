@@ -7,15 +7,15 @@ use Rattle.command_line.specs.Icount.{name_of}
 use Rattle.command_line.specs.Number.{number_in}
 use Rattle.std.specs.declared.option.Option.{Option}
 use Rattle.outside.specs.Ledger.{Ledger}
-use Rattle.command_line.specs.Words.{Recording, Run, Reading, Records, Replays, Debugs, Checks, Lists, Demonstrates, Help, Version, Bad, Early, demo_letters, demo_reading, listed_log, events_reading, run_bios, after_bios, run_option, run_log, run_words, run_reading, Command, DebugCommand, CheckCommand, EventsCommand, DemoCommand, command_of, command_reading, command_or, quiet_reading}
+use Rattle.command_line.specs.Words.{Recording, Run, Reading, Records, Replays, Debugs, Checks, Bad, Early, demo_letters, demo_reading, listed_log, events_reading, run_bios, after_bios, run_option, run_log, run_words, run_reading, Command, DebugCommand, CheckCommand, EventsCommand, DemoCommand, command_of, command_or, quiet_reading}
 use Rattle.elf_load.specs.declared.error.LoadError.{LoadError}
 use Rattle.commands.specs.declared.outcome.Outcome.{Outcome}
-use Rattle.commands.specs.declared.outcome.Outcome.TheVariants.{Printed, GuestEnded, IdleForEver, BudgetReached, BadFirmware, RecordingStopped, HeaderRefused, LogRefused, NoMemory}
+use Rattle.commands.specs.declared.outcome.Outcome.TheVariants.{Printed, GuestEnded, IdleForEver, BudgetReached, BadFirmware, RecordingStopped, HeaderRefused, LogRefused}
 use Rattle.run_files.specs.Ledgers.{CountsKept}
 use Rattle.commands.specs.Faults.{KeptBut, NamesFault, NamesFirstFault, IsFaultless}
 use Rattle.commands.specs.Outcomes.{status_of}
 use Rattle.run_files.specs.Firmwares.{IsBadFirmware}
-use Rattle.commands.specs.Causes.{RecordCause, IfRecords, IsEnded}
+use Rattle.commands.specs.Causes.{IfRecords, IsEnded}
 use Rattle.rrvm.specs.Causes.{Cause, Names, IsPrinted}
 use Rattle.rrvm.specs.Answers.{Explained}
 
@@ -52,11 +52,11 @@ bad-firmware : (r : Reading) (old new : Ledger) (rule : LoadError)
 bad-firmware (Records words) old new rule k = some-rule (old.names words.bios) words rule k
 bad-firmware other old new rule k = tt
 
-pub bad-firmware-told : (words : List (List ℕ)) (r : Reading) (old new : Ledger) (status : ℕ)
+pub bad-firmware-told : {words : List (List ℕ)} {r : Reading} {old new : Ledger} {status : ℕ}
     → Explained words r old new status
     → status ≡ 8 → IfRecords r old (λ words file. (x : LoadError) × IsBadFirmware file words.ram_mib
     x)
-bad-firmware-told words r old new status x e =
+bad-firmware-told {r = r} {old = old} {new = new} x e =
     let is = eight x.outcome (sym x.is_status ∙ e) in
     bad-firmware r old new is.0 (subst (λ (z : Outcome). Cause r old new z) is.1 x.cause)
 
@@ -70,10 +70,10 @@ guest-ended Early old new code (inl e) = absurd cc
 guest-ended Early old new code (inr e) = absurd cc
 guest-ended other old new code k = absurd k
 
-pub guest-ended-told : (words : List (List ℕ)) (r : Reading) (old new : Ledger) (status : ℕ)
+pub guest-ended-told : {words : List (List ℕ)} {r : Reading} {old new : Ledger} {status : ℕ}
     → Explained words r old new status
     → status ≡ 10 → (code : ℕ) × (code ≡ 0 → ⊥) × IsEnded r old new 0 code
-guest-ended-told words r old new status x e =
+guest-ended-told {r = r} {old = old} {new = new} x e =
     let is = ten x.outcome (sym x.is_status ∙ e) in (
       is.0,
       is.1,
@@ -105,10 +105,10 @@ passed r old new outcome k (inl e) =
 passed r old new outcome k (inr e) =
     inr (guest-ended r old new 0 (subst (λ (z : Outcome). Cause r old new z) e k))
 
-pub passed-told : (words : List (List ℕ)) (r : Reading) (old new : Ledger) (status : ℕ)
+pub passed-told : {words : List (List ℕ)} {r : Reading} {old new : Ledger} {status : ℕ}
     → Explained words r old new status
     → status ≡ 0 → IsPrinted r old new ⊎ IsEnded r old new 0 0
-passed-told words r old new status x e =
+passed-told {r = r} {old = old} {new = new} x e =
     passed r old new x.outcome x.cause (passes x.outcome (sym x.is_status ∙ e))
 
 -- ---- a quiet command records and replays nothing
@@ -192,12 +192,12 @@ only-printed : (r : Reading) (old new : Ledger) → (IsEnded r old new 0 0 → �
 only-printed r old new never (inl p) = p
 only-printed r old new never (inr e) = absurd (never e)
 
-pub quiet-told : (words : List (List ℕ)) (old new : Ledger) (status : ℕ)
+pub quiet-told : (words : List (List ℕ)) {old new : Ledger} {status : ℕ}
     → Explained words (quiet_reading words) old new status → status ≡ 0
     → IsPrinted (quiet_reading words) old new
-quiet-told words old new status x e =
+quiet-told words {old} {new} x e =
     only-printed (quiet_reading words) old new (quiet words old new)
-    (passed-told words (quiet_reading words) old new status x e)
+    (passed-told x e)
 
 -- ---- the counts where nothing failed
 
@@ -238,7 +238,7 @@ names-kept : (r : Reading) (old mid : Ledger) (outcome : Outcome)
 names-kept (Records words) old mid outcome run k = first-kept old mid outcome run k
 names-kept other old mid outcome run k = named-kept old mid outcome run k
 
-pub unfaulted-told : (words : List (List ℕ)) (r : Reading) (old new : Ledger) (status : ℕ)
+pub unfaulted-told : {words : List (List ℕ)} {r : Reading} {old new : Ledger} {status : ℕ}
     → Explained words r old new status → IsFaultless status → CountsKept old new
-unfaulted-told words r old new status x run =
+unfaulted-told {r = r} {old = old} {new = new} x run =
     names-kept r old new x.outcome (subst IsFaultless x.is_status run) x.named

@@ -6,12 +6,12 @@ use Rattle.outside.specs.Causes.{Rose, Stood}
 use Rattle.outside.specs.Told.{Takes, TakesFront}
 use Rattle.outside.specs.Ledger.{Ledger}
 use Rattle.outside.specs.Roles.{at}
-use Rattle.outside.specs.declared.roles.Role.TheVariants.{ConsoleIn, ConsoleOut, LogIn, LogOut, Firmware, Messages}
+use Rattle.outside.specs.declared.roles.Role.TheVariants.{ConsoleOut, LogIn, LogOut, Firmware, Messages}
 use Rattle.command_line.specs.Words.{Recording, Replaying, Reading, Records, Replays, Debugs, Checks, Lists, Demonstrates, Help, Version, Bad, Early}
 use Rattle.log_order.specs.declared.refusal.Refusal.{Refusal}
 use Rattle.rr_engine.specs.Input.{Extent, Entire, Part}
 use Rattle.commands.specs.declared.outcome.Outcome.{Outcome}
-use Rattle.commands.specs.declared.outcome.Outcome.TheVariants.{Printed, GuestEnded, IdleForEver, BudgetReached, BadWord, WordsMissing, CannotOpen, CannotRead, ConsoleUnreadable, ConsoleFailed, LogFailed, LogUnreadable, BadFirmware, RecordingStopped, HeaderRefused, LogRefused, ImagesDiffer, LogTooLong, QuietFailed, CommandsUnreadable, TooMuchInput, NoMemory}
+use Rattle.commands.specs.declared.outcome.Outcome.TheVariants.{Printed, GuestEnded, IdleForEver, BudgetReached, CannotOpen, ConsoleUnreadable, ConsoleFailed, RecordingStopped, HeaderRefused, LogRefused, ImagesDiffer, LogTooLong, QuietFailed, CommandsUnreadable, TooMuchInput, NoMemory}
 use Rattle.outside.specs.Openings.{OpensFront}
 use Rattle.outside.specs.declared.openings.Opening.{Opening}
 use Rattle.run_files.specs.Ledgers.{only, only_run, CountsKept, Untouched}
@@ -29,13 +29,12 @@ use Rattle.commands.specs.Replays.{IsReplayed, IsRefusedLog, IsReplayedToLimit, 
 use Rattle.commands.specs.Causes.{RecordCause, ReplayCause, DemoCause, PrintCause, IfBoth, IfRecords, IfRecording}
 use Rattle.debug_command.specs.Debugs.{IsHeld, IsShown as IsSessionShown}
 use Rattle.debug_command.specs.Causes.{DebugCause, IsHeldTo}
-use Rattle.check_command.specs.Checks.{CheckCause, UnacceptedCause}
+use Rattle.check_command.specs.Checks.{CheckCause}
 use Rattle.list_command.specs.Lists.{ListCause}
 use Rattle.monitor.specs.declared.sessions.SessionEnd.{SessionEnd}
 use Rattle.monitor.specs.declared.sessions.SessionEnd.TheVariants as session_end
 use Rattle.run_files.specs.Files.{firmware_opening}
 use Rattle.outside.specs.declared.openings.Opening.TheVariants.{Source}
-use Rattle.outside.specs.declared.roles.Role.{Role}
 use Rattle.rrvm.specs.Causes.{Cause, Names, Shows}
 use Rattle.rrvm.specs.Answers.{Explained}
 

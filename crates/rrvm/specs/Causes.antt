@@ -1,5 +1,5 @@
 -- When each outcome comes, and what standard output has then, whatever the words ask for.
-use Rattle.std.specs.Prelude.{◌≡◌, ◌⊎◌, ℕ, ⊤, List, [], Some, IfSome}
+use Rattle.std.specs.Prelude.{◌≡◌, ◌⊎◌, ⊤, [], Some, IfSome}
 use Rattle.outside.specs.Causes.{Rose}
 use Rattle.outside.specs.Ledger.{Ledger}
 use Rattle.outside.specs.Roles.{at}

@@ -1,5 +1,5 @@
 -- What the words let be opened, in the order in which it is.
-use Rattle.std.specs.Prelude.{ℕ, List, [], ◌∷◌, None}
+use Rattle.std.specs.Prelude.{List, [], ◌∷◌, None}
 use Rattle.outside.specs.Ledger.{Ledger}
 use Rattle.outside.specs.Openings.{OpensFront}
 use Rattle.outside.specs.declared.openings.Opening.{Opening}

@@ -37,46 +37,25 @@ returns-clause-shown g c =
     c.read_line-line.ensures.value c.tell-told.ensures.rest c.answer-outcome.ensures.shown
 
 pub returns-clause-replays : goal.returns-clause-replays
-returns-clause-replays g c =
-    replays-told (map string_bytes c.args.words.now) (line_in c.args.words.now)
-    (g.W.World.ledger c.args.world.now)
-    (g.W.World.ledger c.tell-told.new.world) c.status.result (returns-clause-explained g c)
+returns-clause-replays g c = replays-told (returns-clause-explained g c)
 
 pub returns-clause-refuses : goal.returns-clause-refuses
-returns-clause-refuses g c =
-    refuses-told (map string_bytes c.args.words.now) (line_in c.args.words.now)
-    (g.W.World.ledger c.args.world.now)
-    (g.W.World.ledger c.tell-told.new.world) c.status.result (returns-clause-explained g c)
+returns-clause-refuses g c = refuses-told (returns-clause-explained g c)
 
 pub returns-clause-too_long : goal.returns-clause-too_long
-returns-clause-too_long g c =
-    long-told (map string_bytes c.args.words.now) (line_in c.args.words.now)
-    (g.W.World.ledger c.args.world.now)
-    (g.W.World.ledger c.tell-told.new.world) c.status.result (returns-clause-explained g c)
+returns-clause-too_long g c = long-told (returns-clause-explained g c)
 
 pub returns-clause-bad_firmware : goal.returns-clause-bad_firmware
-returns-clause-bad_firmware g c =
-    bad-firmware-told (map string_bytes c.args.words.now) (line_in c.args.words.now)
-    (g.W.World.ledger c.args.world.now) (g.W.World.ledger c.tell-told.new.world) c.status.result
-    (returns-clause-explained g c)
+returns-clause-bad_firmware g c = bad-firmware-told (returns-clause-explained g c)
 
 pub returns-clause-guest : goal.returns-clause-guest
-returns-clause-guest g c =
-    guest-ended-told (map string_bytes c.args.words.now) (line_in c.args.words.now)
-    (g.W.World.ledger c.args.world.now) (g.W.World.ledger c.tell-told.new.world) c.status.result
-    (returns-clause-explained g c)
+returns-clause-guest g c = guest-ended-told (returns-clause-explained g c)
 
 pub returns-clause-passed : goal.returns-clause-passed
-returns-clause-passed g c =
-    passed-told (map string_bytes c.args.words.now) (line_in c.args.words.now)
-    (g.W.World.ledger c.args.world.now) (g.W.World.ledger c.tell-told.new.world) c.status.result
-    (returns-clause-explained g c)
+returns-clause-passed g c = passed-told (returns-clause-explained g c)
 
 pub returns-clause-unfaulted : goal.returns-clause-unfaulted
-returns-clause-unfaulted g c =
-    unfaulted-told (map string_bytes c.args.words.now) (line_in c.args.words.now)
-    (g.W.World.ledger c.args.world.now) (g.W.World.ledger c.tell-told.new.world) c.status.result
-    (returns-clause-explained g c)
+returns-clause-unfaulted g c = unfaulted-told (returns-clause-explained g c)
 
 pub returns-clause-openings : goal.returns-clause-openings
 returns-clause-openings g c =
@@ -93,32 +72,17 @@ returns-clause-untouched g c =
     c.read_line-line.ensures.value c.tell-told.ensures.rest c.answer-outcome.ensures.untouched
 
 pub returns-clause-replayable : goal.returns-clause-replayable
-returns-clause-replayable g c =
-    replayable-told (map string_bytes c.args.words.now) (line_in c.args.words.now)
-    (g.W.World.ledger c.args.world.now) (g.W.World.ledger c.tell-told.new.world) c.status.result
-    (returns-clause-explained g c)
+returns-clause-replayable g c = replayable-told (returns-clause-explained g c)
     (subst IsLineInRange c.read_line-line.ensures.value c.read_line-line.ensures.range)
 
 pub returns-clause-checks : goal.returns-clause-checks
-returns-clause-checks g c =
-    accepts-told (map string_bytes c.args.words.now) (line_in c.args.words.now)
-    (g.W.World.ledger c.args.world.now)
-    (g.W.World.ledger c.tell-told.new.world) c.status.result (returns-clause-explained g c)
+returns-clause-checks g c = accepts-told (returns-clause-explained g c)
 
 pub returns-clause-checks_wrong : goal.returns-clause-checks_wrong
-returns-clause-checks_wrong g c =
-    rejects-told (map string_bytes c.args.words.now) (line_in c.args.words.now)
-    (g.W.World.ledger c.args.world.now)
-    (g.W.World.ledger c.tell-told.new.world) c.status.result (returns-clause-explained g c)
+returns-clause-checks_wrong g c = rejects-told (returns-clause-explained g c)
 
 pub returns-clause-debugs : goal.returns-clause-debugs
-returns-clause-debugs g c =
-    holds-accepted (map string_bytes c.args.words.now) (line_in c.args.words.now)
-    (g.W.World.ledger c.args.world.now)
-    (g.W.World.ledger c.tell-told.new.world) c.status.result (returns-clause-explained g c)
+returns-clause-debugs g c = holds-accepted (returns-clause-explained g c)
 
 pub returns-clause-debugs_wrong : goal.returns-clause-debugs_wrong
-returns-clause-debugs_wrong g c =
-    holds-refused (map string_bytes c.args.words.now) (line_in c.args.words.now)
-    (g.W.World.ledger c.args.world.now)
-    (g.W.World.ledger c.tell-told.new.world) c.status.result (returns-clause-explained g c)
+returns-clause-debugs_wrong g c = holds-refused (returns-clause-explained g c)

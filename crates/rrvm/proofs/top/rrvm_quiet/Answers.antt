@@ -29,8 +29,7 @@ returns-clause-shown g c =
 
 pub returns-clause-passed : goal.returns-clause-passed
 returns-clause-passed g c =
-    quiet-told (map string_bytes c.args.words.now) (g.W.World.ledger c.args.world.now)
-    (g.W.World.ledger c.tell-told.new.world) c.status.result (returns-clause-explained g c)
+    quiet-told (map string_bytes c.args.words.now) (returns-clause-explained g c)
 
 pub returns-clause-openings : goal.returns-clause-openings
 returns-clause-openings g c =
@@ -40,31 +39,16 @@ returns-clause-openings g c =
     c.read_quiet-line.ensures.value c.answer-outcome.ensures.openings c.tell-told.ensures.openings
 
 pub returns-clause-unfaulted : goal.returns-clause-unfaulted
-returns-clause-unfaulted g c =
-    unfaulted-told (map string_bytes c.args.words.now) (quiet_in c.args.words.now)
-    (g.W.World.ledger c.args.world.now) (g.W.World.ledger c.tell-told.new.world) c.status.result
-    (returns-clause-explained g c)
+returns-clause-unfaulted g c = unfaulted-told (returns-clause-explained g c)
 
 pub returns-clause-checks : goal.returns-clause-checks
-returns-clause-checks g c =
-    accepts-told (map string_bytes c.args.words.now) (quiet_in c.args.words.now)
-    (g.W.World.ledger c.args.world.now)
-    (g.W.World.ledger c.tell-told.new.world) c.status.result (returns-clause-explained g c)
+returns-clause-checks g c = accepts-told (returns-clause-explained g c)
 
 pub returns-clause-checks_wrong : goal.returns-clause-checks_wrong
-returns-clause-checks_wrong g c =
-    rejects-told (map string_bytes c.args.words.now) (quiet_in c.args.words.now)
-    (g.W.World.ledger c.args.world.now)
-    (g.W.World.ledger c.tell-told.new.world) c.status.result (returns-clause-explained g c)
+returns-clause-checks_wrong g c = rejects-told (returns-clause-explained g c)
 
 pub returns-clause-debugs : goal.returns-clause-debugs
-returns-clause-debugs g c =
-    holds-accepted (map string_bytes c.args.words.now) (quiet_in c.args.words.now)
-    (g.W.World.ledger c.args.world.now)
-    (g.W.World.ledger c.tell-told.new.world) c.status.result (returns-clause-explained g c)
+returns-clause-debugs g c = holds-accepted (returns-clause-explained g c)
 
 pub returns-clause-debugs_wrong : goal.returns-clause-debugs_wrong
-returns-clause-debugs_wrong g c =
-    holds-refused (map string_bytes c.args.words.now) (quiet_in c.args.words.now)
-    (g.W.World.ledger c.args.world.now)
-    (g.W.World.ledger c.tell-told.new.world) c.status.result (returns-clause-explained g c)
+returns-clause-debugs_wrong g c = holds-refused (returns-clause-explained g c)
