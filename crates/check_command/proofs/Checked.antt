@@ -1,16 +1,21 @@
 -- What a check comes to, by what the run of its log gave and by what was printed.
-use Rattle.std.proofs.Common.{◌≡◌, ℕ, List, refl, sym, ap, ◌∙◌, subst, arith}
-use Rattle.std.specs.Prelude.{Some, None, Result, Ok, Err, OnOk, IsErrOf, []}
+use Rattle.std.proofs.Common.{◌≡◌, ℕ, List, refl, sym, ap, ◌∙◌, subst}
+use Rattle.std.specs.Prelude.{Some, None, Result, Ok, Err, OnOk, IsErrOf, [], ◌∷◌}
 use Rattle.std.specs.declared.option.Option.{Option}
 use Rattle.outside.specs.Causes.{Rose, both}
 use Rattle.outside.specs.Ledger.{Ledger, opens, source_back}
+use Rattle.outside.specs.Openings.{OpensFront}
 use Rattle.outside.specs.Roles.{at}
 use Rattle.outside.specs.Told.{Takes}
+use Rattle.outside.specs.declared.openings.Opening.TheVariants.{Source}
 use Rattle.outside.specs.declared.roles.Role.TheVariants.{ConsoleOut, LogIn}
+use Rattle.outside.proofs.OpeningLemmas.{OpensFront-after, OpensFront-longer}
 use Rattle.command_line.specs.Words.{Replaying}
-use Rattle.event_log.specs.Reading.{Reader, Unread, ahead, reading, none_read}
+use Rattle.event_log.specs.Reading.{Reader, ahead, reading, none_read}
 use Rattle.commands.specs.Asking.{quiet_outcome_of}
+use Rattle.run_files.specs.Files.{firmware_opening}
 use Rattle.commands.specs.Causes.{IfBoth}
+use Rattle.commands.specs.Openings.{console_openings, played_openings}
 use Rattle.commands.specs.declared.outcome.Outcome.{Outcome}
 use Rattle.commands.specs.declared.outcome.Outcome.TheVariants as outcome
 use Rattle.commands.specs.declared.printing.PrintFault.{PrintFault}
@@ -21,11 +26,6 @@ use Rattle.check_command.specs.declared.tally.Tally.{Tally}
 use Rattle.check_command.proofs.Judged.{both-some}
 
 -- ---- the log that was opened
-
-pub opened-reader : (r : Reader) (left log : Option (List ℕ)) (faults : ℕ) (unread : Unread)
-    → r ≡ reading left faults unread → left ≡ log → faults ≡ 0 → unread ≡ none_read 0
-    → r ≡ reading log 0 (none_read 0)
-opened-reader r left log faults unread is holds fresh none = cc
 
 all-ahead : (log : Option (List ℕ)) → ahead (reading log 0 (none_read 0)) ≡ log
 all-ahead None = refl
@@ -46,6 +46,19 @@ console-untouched old opened mid back log n left opens_ rest back_ = (
       ∙ ap (λ (l : Ledger). at l.opened ConsoleOut) rest
       ∙ ap (λ (l : Ledger). at l.opened ConsoleOut) opens_,
 )
+
+-- it was opened, and then the firmware or not
+pub judged-openings : (log bios : List ℕ) (old opened mid back : Ledger) (n : ℕ)
+    (left : Option (List ℕ)) → opened ≡ opens old LogIn (Some log)
+    → OpensFront opened.openings mid.openings (firmware_opening bios ∷ [])
+    → back ≡ source_back mid LogIn n left
+    → OpensFront old.openings back.openings (Source LogIn (Some log) ∷ played_openings bios)
+judged-openings log bios old opened mid back n left opens_ judged back_ =
+    subst (λ z. OpensFront old.openings z (Source LogIn (Some log) ∷ played_openings bios))
+    (sym (ap (λ (l : Ledger). l.openings) back_))
+    (OpensFront-after old.openings opened.openings mid.openings (Source LogIn (Some log) ∷ [])
+    (played_openings bios) (ap (λ (l : Ledger). l.openings) opens_)
+    (OpensFront-longer _ _ (firmware_opening bios ∷ []) console_openings judged))
 
 -- ---- where it has a tally
 

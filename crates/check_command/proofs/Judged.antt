@@ -1,6 +1,6 @@
 -- What a log comes to that was run over a console that nobody sees.
-use Rattle.std.proofs.Common.{◌≡◌, ℕ, List, length, drop, refl, sym, ap, ◌∙◌, subst, arith, append-nil}
-use Rattle.std.specs.Prelude.{Some, None, IfSome, Result, is_some}
+use Rattle.std.proofs.Common.{◌≡◌, ℕ, List, refl, sym, ap, subst, arith}
+use Rattle.std.specs.Prelude.{Some, None, Result, is_some}
 use Rattle.std.specs.declared.option.Option.{Option}
 use Rattle.outside.specs.Causes.{Rose}
 use Rattle.outside.specs.Ledger.{Ledger, opens_sink, sink_back}
@@ -9,7 +9,6 @@ use Rattle.command_line.specs.Words.{Replaying}
 use Rattle.elf_load.specs.declared.pieces.Loaded.{Loaded}
 use Rattle.event_log.specs.declared.header.Header.{Header}
 use Rattle.event_log.specs.Reading.{Reader, ahead}
-use Rattle.event_log.specs.Spelling.{texts}
 use Rattle.board.specs.State.{State}
 use Rattle.board.specs.Reset.{start_of}
 use Rattle.rr_engine.specs.declared.replaying.ReplayEnd.{ReplayEnd}
@@ -21,7 +20,6 @@ use Rattle.commands.specs.Asking.{image_outcome_of}
 use Rattle.commands.specs.Causes.{IfBoth, ReplayCause}
 use Rattle.commands.specs.Playing.{ShowsOver}
 use Rattle.commands.specs.declared.outcome.Outcome.{Outcome}
-use Rattle.commands.proofs.LogLimits.{log-length}
 use Rattle.commands.proofs.Played.{shows-over}
 use Rattle.commands.proofs.Replayed.{Begins, Told, if-both, whole-log, played-cause}
 use Rattle.check_command.specs.Checks.{IsAccepted, UnacceptedCause, Judges, judged}

@@ -14,8 +14,8 @@ ghost use Rattle.check_command.specs.Checks.{CheckCause, IsCheckedFront, only_ch
 use crate::judging::judge;
 use board::Steps;
 use commands::{Outcome, print, quiet_outcome};
-use event_log::{LogReader, ReadAhead};
 use outside::{OpenError, Role, World};
+use run_files::open_log;
 use std::alloc::Global;
 use std::sync::ledger::Ledger;
 
@@ -44,11 +44,8 @@ pub fn check<W: World, L: Ledger>(
     ensures balanced_console { Balanced ConsoleOut (W.ledger world.old) (W.ledger world.new) }
     ensures rest { W.ledger world.new ≡ only_checking (W.ledger world.old) (W.ledger world.new) }
 {
-    let Ok(unread) = ReadAhead::new(alloc) else {
-        return Outcome::NoMemory;
-    };
-    let mut reader = match world.source(Role::LogIn, Some(log)) {
-        Ok(source) => LogReader::over(source, unread),
+    let mut reader = match open_log(alloc, log, world) {
+        Ok(reader) => reader,
         Err(OpenError::Failed) => return Outcome::CannotOpen(Role::LogIn),
         Err(OpenError::NoMemory) => return Outcome::NoMemory,
     };

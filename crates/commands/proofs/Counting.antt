@@ -1,7 +1,6 @@
 -- Which counts of faults a recording leaves as they were.
-use Rattle.std.proofs.Common.{◌≡◌, ◌≢◌, ℕ, Bool, true, false, List, refl, sym, ap, ◌∙◌, subst, arith}
-use Rattle.std.specs.Prelude.{Some, None, ◌==◌, if◌then◌else◌}
-use Rattle.std.specs.declared.option.Option.{Option}
+use Rattle.std.proofs.Common.{◌≡◌, ℕ, Bool, true, false, List, refl, sym, ap, ◌∙◌, subst, arith}
+use Rattle.std.specs.Prelude.{None, ◌==◌, if◌then◌else◌}
 use Rattle.outside.specs.Causes.{both}
 use Rattle.outside.specs.Ledger.{Ledger}
 use Rattle.outside.specs.Roles.{at}
@@ -18,7 +17,7 @@ use Rattle.commands.specs.declared.outcome.Outcome.{Outcome}
 use Rattle.commands.specs.declared.outcome.Outcome.TheVariants as outcome
 use Rattle.commands.specs.Asking.{ending_outcome_of}
 use Rattle.commands.specs.Endings.{IsFresh, OpeningsKept, KeptOf, KeepsCounts, closed, recording_end_of}
-use Rattle.commands.specs.Faults.{Fault, KeptBut, NamesFirstFault}
+use Rattle.commands.specs.Faults.{KeptBut, NamesFirstFault}
 use Rattle.run_files.specs.Files.{CountsSame}
 use Rattle.run_files.specs.Ledgers.{only_opening, only_recording}
 

@@ -1,6 +1,5 @@
 -- What a replay over a world comes to: by its log's header, its images, and how it ended.
 use Rattle.std.proofs.Common.{◌≡◌, ◌≤◌, ◌<◌, ◌+◌, ◌^◌, ℕ, Bool, true, false, List, [], ◌++◌, length, drop, refl, sym, ap, ◌∙◌, subst, inl, inr, arith, append-nil, length-append}
-use Rattle.std.proofs.Math.Seq.{drop-append_seam}
 use Rattle.std.proofs.lemmas.Bool.{eqb-true, eqb-false}
 use Rattle.std.proofs.lemmas.Option.{IfSome_then}
 use Rattle.std.specs.Prelude.{Some, None, IfSome, IsSome, IsNone, ◌⊎◌, is_some, ◌==◌, if◌then◌else◌}
@@ -21,7 +20,6 @@ use Rattle.event_log.specs.HeaderFormat.{IsHeader, header_text}
 use Rattle.event_log.specs.Grammar.{Stops, Cut}
 use Rattle.event_log.specs.Spelling.{event, texts}
 use Rattle.event_log.specs.Reading.{Reader, ahead, to_limit}
-use Rattle.event_log.proofs.HeaderLaws.{header_length, header_drop}
 use Rattle.board.specs.Reset.{reset, start_of}
 use Rattle.board.specs.Due.{due}
 use Rattle.board.specs.State.{State}

@@ -5,7 +5,7 @@ use Rattle.outside.specs.Causes.{Rose, Stood}
 use Rattle.outside.specs.Ledger.{Ledger}
 use Rattle.outside.specs.Told.{Takes, TakesFront}
 use Rattle.outside.specs.Roles.{at}
-use Rattle.outside.specs.declared.roles.Role.TheVariants.{ConsoleIn, ConsoleOut, LogIn, LogOut, Firmware}
+use Rattle.outside.specs.declared.roles.Role.TheVariants.{ConsoleIn, ConsoleOut, LogOut, Firmware}
 use Rattle.command_line.specs.Words.{Recording, Replaying, Reading, Records, Replays, Demonstrates}
 use Rattle.event_log.specs.declared.header.Header.{Header}
 use Rattle.rr_engine.specs.Input.{Extent, Entire, Part}

@@ -1,6 +1,5 @@
 -- What the words ask to record, and what a recording of it writes.
 use Rattle.std.specs.Prelude.{◌≡◌, ◌≤◌, ℕ, List, [], length, Some, IfSome, Ok}
-use Rattle.std.specs.declared.option.Option.{Option}
 use Rattle.outside.specs.Ledger.{Ledger}
 use Rattle.outside.specs.Roles.{at}
 use Rattle.outside.specs.declared.roles.Role.TheVariants.{ConsoleIn, ConsoleOut, LogOut}

@@ -22,10 +22,10 @@ use crate::refusing::{header_outcome, image_outcome};
 use board::Steps;
 use command_line::ReplayWords;
 use elf_load::Loaded;
-use event_log::{Header, LogReader, ReadAhead};
+use event_log::{Header, LogReader};
 use outside::{Careful, OpenError, Role, World};
 use rr_engine::{ReplayEnd, replay_one};
-use run_files::{Difference, read_image};
+use run_files::{Difference, open_log, read_image};
 use std::alloc::Global;
 use std::sync::ledger::Ledger;
 
@@ -161,11 +161,8 @@ pub fn replay<W: World, L: Ledger>(
     ensures balanced_clock { ClocksBalanced (W.ledger world.old) (W.ledger world.new) }
     ensures rest { W.ledger world.new ≡ only_run (W.ledger world.old) (W.ledger world.new) }
 {
-    let Ok(unread) = ReadAhead::new(alloc) else {
-        return Outcome::NoMemory;
-    };
-    let mut log = match world.source(Role::LogIn, Some(words.log)) {
-        Ok(source) => LogReader::over(source, unread),
+    let mut log = match open_log(alloc, words.log, world) {
+        Ok(log) => log,
         Err(OpenError::Failed) => return Outcome::CannotOpen(Role::LogIn),
         Err(OpenError::NoMemory) => return Outcome::NoMemory,
     };

@@ -1,5 +1,5 @@
 -- What a list over a world comes to: by its log's header, and by how it ended.
-use Rattle.std.proofs.Common.{◌≡◌, ◌+◌, ◌^◌, ◌≤◌, ℕ, false, List, [], ◌∷◌, ◌++◌, length, drop, refl, sym, ap, ◌∙◌, subst, arith, append_assoc, append-nil}
+use Rattle.std.proofs.Common.{◌≡◌, ◌+◌, ℕ, false, List, [], ◌∷◌, ◌++◌, length, drop, refl, sym, ap, ◌∙◌, subst, arith, append_assoc, append-nil}
 use Rattle.std.proofs.lemmas.Option.{IfSome_then}
 use Rattle.std.specs.Prelude.{Some, None, IfSome, ⊤}
 use Rattle.std.specs.declared.option.Option.{Option}
@@ -21,13 +21,12 @@ use Rattle.event_list.specs.declared.listing.ListEnd.TheVariants.{Whole, Refused
 use Rattle.event_list.specs.Texts.{event_line, event_lines}
 use Rattle.event_list.specs.Listing.{Listed, Begins, IsWrongAt, IsPastLimit, ended, behind, StartsWith, Unfaulted, ListsFront, ListsTo}
 use Rattle.event_list.proofs.ListSteps.{one-end-more, all-more, lines-more}
-use Rattle.log_order.specs.declared.refusal.Refusal.{Refusal}
 use Rattle.run_files.specs.Headers.{HasHeader}
 use Rattle.commands.specs.Faults.{Fault, fault_of}
 use Rattle.commands.specs.declared.outcome.Outcome.{Outcome}
 use Rattle.commands.proofs.LogLimits.{log-length}
 use Rattle.run_files.proofs.Headed.{headed}
-use Rattle.list_command.specs.Lists.{HasEvents, IsListed, IsListedToWrong, IsListedToLimit, IsShownFront, ListCause, ListingKeptBut, list_outcome_of}
+use Rattle.list_command.specs.Lists.{HasEvents, IsShownFront, ListCause, ListingKeptBut, list_outcome_of}
 
 -- ---- the log's bytes
 

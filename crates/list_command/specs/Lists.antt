@@ -1,5 +1,5 @@
 -- What a list of a log's events gives over a world: by the grammar alone, as no machine is asked.
-use Rattle.std.specs.Prelude.{◌≡◌, ◌≢◌, ◌<◌, ◌≤◌, ◌^◌, ℕ, true, ⊤, List, [], ◌∷◌, ◌++◌, length, drop, Some, IfSome}
+use Rattle.std.specs.Prelude.{◌≡◌, ◌≢◌, ◌≤◌, ◌^◌, ℕ, true, ⊤, List, [], ◌∷◌, ◌++◌, length, drop, Some, IfSome}
 use Rattle.std.specs.declared.option.Option.{Option}
 use Rattle.std.specs.List.{AllByRecursion}
 use Rattle.outside.specs.Causes.{Rose}

@@ -13,8 +13,9 @@ ghost use Rattle.list_command.specs.Lists.{list_outcome_of, IsShownFront, ListCa
 
 use commands::{Outcome, header_outcome};
 use event_list::{ListEnd, list_events};
-use event_log::{LogReader, ReadAhead};
+use event_log::LogReader;
 use outside::{Careful, OpenError, Role, World};
+use run_files::open_log;
 use std::alloc::Global;
 
 /// How the list ended.
@@ -77,11 +78,8 @@ pub fn list<W: World>(alloc: Global, log: &str, world: &mut W) -> Outcome
     ensures balanced_console { Balanced ConsoleOut (W.ledger world.old) (W.ledger world.new) }
     ensures rest { W.ledger world.new ≡ only_listing (W.ledger world.old) (W.ledger world.new) }
 {
-    let Ok(unread) = ReadAhead::new(alloc) else {
-        return Outcome::NoMemory;
-    };
-    let mut reader = match world.source(Role::LogIn, Some(log)) {
-        Ok(source) => LogReader::over(source, unread),
+    let mut reader = match open_log(alloc, log, world) {
+        Ok(reader) => reader,
         Err(OpenError::Failed) => return Outcome::CannotOpen(Role::LogIn),
         Err(OpenError::NoMemory) => return Outcome::NoMemory,
     };

@@ -1,4 +1,4 @@
-use Rattle.std.proofs.Common.{◌≡◌, ℕ, ap, ◌∙◌, sym, arith}
+use Rattle.std.proofs.Common.{◌≡◌, ap, ◌∙◌, sym, arith}
 use Rattle.outside.specs.Causes.{one_more}
 use Rattle.outside.proofs.OpeningLemmas.{OpensFront-all}
 use Rattle.board.specs.Reset.{start_of}

@@ -15,7 +15,7 @@ returns-clause-openings g c =
     let due = Source LogIn (Some c.args.words.now.log.now) ∷ played_openings c.args.words.now.bios.now in
     subst (λ z. OpensFront old.openings z due)
     (sym (ap (λ (l : Ledger). l.openings) c.take_source.ensures.back))
-    (OpensFront-after old.openings (g.W.World.ledger c.source.new.self).openings last.openings
+    (OpensFront-after old.openings (g.W.World.ledger c.open_log.new.world).openings last.openings
     (Source LogIn (Some c.args.words.now.log.now) ∷ []) (played_openings c.args.words.now.bios.now)
-    (ap (λ (l : Ledger). l.openings) c.in-Ok-source.ensures.opened)
+    (ap (λ (l : Ledger). l.openings) c.in-Ok.ensures.opened)
     c.replay_log-outcome.ensures.openings)

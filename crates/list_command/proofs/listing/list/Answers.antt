@@ -15,9 +15,9 @@ returns-clause-openings g c =
     let last = g.W.World.ledger c.list_log-outcome.new.world in
     subst (λ z. OpensFront old.openings z (list_openings c.args.log.now))
     (sym (ap (λ (l : Ledger). l.openings) c.take_source.ensures.back))
-    (OpensFront-after old.openings (g.W.World.ledger c.source.new.self).openings last.openings
+    (OpensFront-after old.openings (g.W.World.ledger c.open_log.new.world).openings last.openings
     (Source LogIn (Some c.args.log.now) ∷ []) console_openings
-    (ap (λ (l : Ledger). l.openings) c.in-Ok-source.ensures.opened)
+    (ap (λ (l : Ledger). l.openings) c.in-Ok.ensures.opened)
     c.list_log-outcome.ensures.openings)
 
 pub returns-clause-cause : goal.returns-clause-cause
