@@ -4,5 +4,7 @@ pub mod Mark
 pub mod Moves
 pub mod Waymarks
 pub mod Snapshots
+pub mod Walk
+pub mod Backing
 pub mod Timeline
 pub mod Trace

@@ -1,9 +1,18 @@
-//! Why a timeline stays where it is.
+//! Why a timeline isn't opened, and why it stays where it is.
 
 ghost use Rattle.std.specs.Prelude.{◌≡◌};
 ghost use Rattle.reverse_seek.specs.declared.error.SeekError.TheVariants.{NoMemory};
 
 use std::alloc::AllocError;
+
+/// Why a timeline isn't opened, and the image that it was to have.
+#[derive(Debug, Drop)]
+pub enum OpenTrouble<I> {
+    /// The image failed in this call, and its count of faults rose.
+    ImageFailed(I),
+    /// Memory was refused. The image's count of faults is as it was.
+    NoMemory(I),
+}
 
 /// Why a timeline stays where it is.
 #[derive(Clone, Copy, Debug, PartialEq, Eq)]
@@ -14,6 +23,9 @@ pub enum SeekError {
     AtStart,
     /// No turn is left there.
     AtEnd,
+    /// The disk's image failed in this call, and its count of faults rose.
+    ImageFailed,
+    /// Memory was refused.
     NoMemory,
 }
 

@@ -14,8 +14,9 @@ mod script;
 mod snapshots;
 mod stride;
 mod timeline;
+mod walk;
 mod waymarks;
 
-pub use error::SeekError;
+pub use error::{OpenTrouble, SeekError};
 pub use laws::state_is_the_last_at_its_count;
 pub use timeline::Timeline;

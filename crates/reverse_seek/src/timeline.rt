@@ -1,80 +1,87 @@
 //! A recorded run in which one goes back and forth.
 
-ghost use Rattle.std.specs.Prelude.{◌≡◌, ◌≤◌, ◌+◌, ◌-◌, ◌*◌, ◌/◌, length, OnOk, OnErr, IfOk};
+ghost use Rattle.std.specs.Prelude.{◌≡◌, ◌≤◌, ◌+◌, ◌-◌, ◌*◌, ◌/◌, length, IfOk, IfErr};
 ghost use Rattle.elf_load.specs.Load.{LiesInRam};
 ghost use Rattle.event_log.specs.HeaderFormat.{IsHeader};
 ghost use Rattle.board.specs.Reset.{start_of};
+ghost use Rattle.reverse_seek.specs.Backing.{backing, GivesBack};
 ghost use Rattle.reverse_seek.specs.Script.{first_place, Reads};
 ghost use Rattle.reverse_seek.specs.Stride.{stride_of as stride_to, kept_of, IsLeastStride};
-ghost use Rattle.reverse_seek.specs.Timeline.{shows, moved, break_below, break_above};
+ghost use Rattle.reverse_seek.specs.Timeline.{shows, break_below, break_above};
 ghost use Rattle.reverse_seek.specs.Timeline.{Seeks, GoesBack, GoesOn, turns_to};
 
 use crate::breaks::{break_above, break_below};
-use crate::error::SeekError;
-use crate::mark::Mark;
-use crate::script::Script;
-use crate::snapshots::Snapshots;
-use crate::stride::stride_of;
-use crate::waymarks::Waymarks;
-use board::{Config, Machine, Steps};
+use crate::error::{OpenTrouble, SeekError};
+use crate::walk::Walk;
+use board::{Machine, Steps};
 use elf_load::Loaded;
 use event_log::Header;
 use log_order::Refusal;
-use outside::NoMemory;
+use outside::Image;
 use std::alloc::Global;
 use std::marker::Model;
 use std::sync::ledger::Ledger;
 
-/// A recorded run, and the count of turns at which one stands in it.
+/// A recorded run, the count of turns at which one stands in it, and the disk's image.
 ///
 /// Its machine is in the state from which the next turn starts, after all events before that turn.
-/// A move works on a shared copy, so that want of memory leaves the count and the machine as they
-/// were.
+/// After any error the count, the machine and the image's bytes are as they were.
 #[derive(Drop)]
-pub struct Timeline {
-    script: Script,
-    kept: Snapshots,
-    mark: Mark,
+pub struct Timeline<I: Image> {
+    walk: Walk,
+    image: I,
 }
 
-impl Model for Timeline {
-    ghost use Rattle.std.specs.Prelude.{◌≤◌};
+impl<I: Image> Model for Timeline<I> {
+    ghost use Rattle.reverse_seek.specs.Backing.{backing};
     ghost use Rattle.reverse_seek.specs.Timeline.{Timeline as Shown};
-    ghost use Rattle.reverse_seek.specs.Mark.{StandsAt};
-    ghost use Rattle.reverse_seek.specs.Snapshots.{Keeps};
 
     ghost Value = { Shown };
 
-    ghost view = { λ t. record { script = t.script; at = t.mark.machine.devices.time.count } };
-
-    ghost invariant = { λ t. StandsAt t.script t.mark.machine.devices.time.count t.mark
-        × Keeps t.script t.kept.counts.items t.kept.keys.items t.kept.marks
-        × (t.mark.machine.devices.time.count ≤ t.script.last) };
+    ghost view = { λ t. record {
+      script = t.walk.script;
+      at = t.walk.at;
+      image = backing (I.content t.image) (I.size t.image) (I.faults t.image);
+    } };
 }
 
-impl Timeline {
+impl<I: Image> Timeline<I> {
     /// The timeline of the accepted part of a log, whose header was read, at count 0; and why no
-    /// more of the log is accepted, None exactly where it is accepted whole.
+    /// more of the log is accepted, None exactly where it is accepted whole. The image has as many
+    /// bytes as the header's disk.
     pub fn open<L: Ledger>(
         alloc: Global,
         header: &Header,
         log: Vec<u8>,
         firmware: &Loaded,
+        image: I,
         steps: &mut Steps<L>,
-    ) -> Result<(Timeline, Option<Refusal>), NoMemory>
+    ) -> Result<(Timeline<I>, Option<Refusal>), OpenTrouble<I>>
         requires header { IsHeader header.now }
         requires firmware { LiesInRam header.now.ram_mib firmware.now }
         requires log { first_place ≤ length log.items }
+        requires disk { I.size image ≡ header.now.disk_len }
         ensures script { IfOk result (λ opened.
             Reads (start_of header.now firmware.now) log.items opened.0.script opened.1) }
         ensures start { IfOk result (λ opened. opened.0.at ≡ 0) }
+        ensures image { IfOk result (λ opened. opened.0.image
+            ≡ backing (I.content image) (I.size image) (I.faults image)) }
+        ensures trouble { IfErr result
+            (GivesBack (λ i. backing (I.content i) (I.size i) (I.faults i))
+            (backing (I.content image) (I.size image) (I.faults image))) }
     {
-        let machine = Machine::reset(alloc, &Config::of(header), firmware)?;
-        let mut ways = Waymarks::of(alloc, log.as_slice());
-        let (script, refusal) = Script::read(alloc, machine, log, &mut ways, steps)?;
-        let kept = Snapshots::of(alloc, &script, script.start()?, &ways, steps)?;
-        let mark = kept.number(&script, 0).share()?;
-        Ok((Timeline { script, kept, mark }, refusal))
+        match Walk::open(alloc, header, log, firmware, steps) {
+            Ok((walk, refusal)) => Ok((Timeline { walk, image }, refusal)),
+            Err(_) => Err(OpenTrouble::NoMemory(image)),
+        }
+    }
+
+    /// The image, as the timeline has it.
+    pub fn finish(self) -> I
+        ensures { backing (I.content result) (I.size result) (I.faults result) ≡ self.image }
+    {
+        let Timeline { image, .. } = self;
+        image
     }
 
     /// The count of turns at which it stands.
@@ -82,21 +89,21 @@ impl Timeline {
         ensures at { result ≡ self.now.at }
         ensures within { result ≤ self.now.script.last }
     {
-        self.mark.machine.count()
+        self.walk.at()
     }
 
     /// The last count, which is that of the whole accepted part.
     pub fn last(&self) -> u64
         ensures { result ≡ self.now.script.last }
     {
-        self.script.last()
+        self.walk.last()
     }
 
     /// The counts of which a snapshot is kept, rising.
     pub fn kept(&self) -> &[u64]
         ensures { result.now ≡ kept_of self.now.script.last }
     {
-        self.kept.counts.as_slice()
+        self.walk.kept()
     }
 
     /// The distance between kept counts.
@@ -104,14 +111,14 @@ impl Timeline {
         ensures stride { result ≡ stride_to self.now.script.last }
         ensures least { IsLeastStride self.now.script.last result }
     {
-        stride_of(self.script.last())
+        self.walk.stride()
     }
 
     /// The machine, in the state at the count at which it stands.
     pub fn machine(&self) -> &Machine
         ensures { result.now ≡ shows self.now self.now.at }
     {
-        &self.mark.machine
+        self.walk.machine()
     }
 
     /// The snapshot of that number, in the state at its count.
@@ -119,46 +126,7 @@ impl Timeline {
         requires { number ≤ self.now.script.last / stride_to self.now.script.last }
         ensures { result.now ≡ shows self.now (number * stride_to self.now.script.last) }
     {
-        &self.kept.number(&self.script, number).machine
-    }
-
-    /// Goes to a count from the snapshot at or below it.
-    fn go_to<L: Ledger>(
-        &mut self,
-        alloc: Global,
-        n: u64,
-        steps: &mut Steps<L>,
-    ) -> Result<(), NoMemory>
-        requires { n ≤ self.old.script.last }
-        ensures ok { OnOk result (self.new ≡ moved self.old n) }
-        ensures err { OnErr result (self.new ≡ self.old) }
-        ensures turns { steps.new ≤ steps.old + turns_to n self.old }
-    {
-        let stride = stride_of(self.script.last());
-        let kept = self.kept.number(&self.script, (n / stride) as usize);
-        let mut mark = kept.share()?;
-        mark.go_on(alloc, &self.script, n, steps)?;
-        self.mark = mark;
-        Ok(())
-    }
-
-    /// Goes to the next count from where it stands.
-    fn go_on_one<L: Ledger>(
-        &mut self,
-        alloc: Global,
-        n: u64,
-        steps: &mut Steps<L>,
-    ) -> Result<(), NoMemory>
-        requires next { n ≡ self.old.at + 1 }
-        requires within { n ≤ self.old.script.last }
-        ensures ok { OnOk result (self.new ≡ moved self.old n) }
-        ensures err { OnErr result (self.new ≡ self.old) }
-        ensures turns { steps.new ≤ steps.old + 1 }
-    {
-        let mut mark = self.mark.share()?;
-        mark.go_on(alloc, &self.script, n, steps)?;
-        self.mark = mark;
-        Ok(())
+        self.walk.snapshot(number)
     }
 
     /// Goes to a count, as a debugger's `replay_seek` does.
@@ -175,7 +143,7 @@ impl Timeline {
         if n > last {
             return Err(SeekError::PastEnd { asked: n, last });
         }
-        Ok(self.go_to(alloc, n, steps)?)
+        Ok(self.walk.go_to(alloc, n, steps)?)
     }
 
     /// Goes one turn back, as reverse-step does.
@@ -191,7 +159,7 @@ impl Timeline {
         if at == 0 {
             return Err(SeekError::AtStart);
         }
-        Ok(self.go_to(alloc, at - 1, steps)?)
+        Ok(self.walk.go_to(alloc, at - 1, steps)?)
     }
 
     /// Goes one turn on, in one turn.
@@ -207,7 +175,7 @@ impl Timeline {
         if at == self.last() {
             return Err(SeekError::AtEnd);
         }
-        Ok(self.go_on_one(alloc, at + 1, steps)?)
+        Ok(self.walk.go_on_one(alloc, at + 1, steps)?)
     }
 
     /// Goes back to the greatest break below the count, else to 0, as reverse-continue does.
@@ -225,7 +193,7 @@ impl Timeline {
         if at == 0 {
             return Err(SeekError::AtStart);
         }
-        Ok(self.go_to(alloc, break_below(at, breaks), steps)?)
+        Ok(self.walk.go_to(alloc, break_below(at, breaks), steps)?)
     }
 
     /// Goes on to the least break above the count, else to the last count, as continue does.
@@ -246,6 +214,9 @@ impl Timeline {
         if at == last {
             return Err(SeekError::AtEnd);
         }
-        Ok(self.go_to(alloc, break_above(at, last, breaks), steps)?)
+        Ok(
+            self.walk
+                .go_to(alloc, break_above(at, last, breaks), steps)?,
+        )
     }
 }

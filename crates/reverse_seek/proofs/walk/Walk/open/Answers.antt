@@ -1,7 +1,7 @@
 use Rattle.std.proofs.Common.{subst}
 use Rattle.reverse_seek.specs.Script.{Reads}
 use Rattle.reverse_seek.proofs.Opening.{started, reset-begins}
-use Rattle.reverse_seek.proofs.timeline.Timeline.open.Goals as goal
+use Rattle.reverse_seek.proofs.walk.Walk.open.Goals as goal
 
 pub read-requires-clause-begins : goal.read-requires-clause-begins
 read-requires-clause-begins g c =
