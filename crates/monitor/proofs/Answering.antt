@@ -67,7 +67,10 @@ said-fault told text d e old new same front rose = subst (λ z. Says z (Err halt
 pub said-nothing : (told : List ℕ × Desk) (d : Desk) (w : Written) → Says told (Err halt.NoMemory) d w w
 said-nothing told d w = (TakesFront-none w.taken told.0, refl)
 
-pub ruleset saying = (said-ok, said-fault, said-nothing)
+pub said-unread : (told : List ℕ × Desk) (d : Desk) (w : Written) → Says told (Err halt.ImageFault) d w w
+said-unread told d w = (TakesFront-none w.taken told.0, refl)
+
+pub ruleset saying = (said-ok, said-fault, said-nothing, said-unread)
 
 pub byte-feed : (s : Script) (d : Desk) (b : ℕ) → b ≡ 10 → with_byte s d b ≡ whole_line s d
 unfolding with_byte

@@ -159,6 +159,8 @@ ends-halted : (s : Script) (read : List ℕ) (h : Halt) (told : List ℕ × Desk
     → Serves s (halted_as h) input input' out out'
 ends-halted s read halt.WriteFault told e input input' out mid out' came few same stood says longer =
     record { read = read; came = came; ends = (longer says.0, few, same, subst (λ z. Rose z out'.faults) stood says.1) }
+ends-halted s read halt.ImageFault told e input input' out mid out' came few same stood says longer =
+    record { read = read; came = came; ends = (longer says.0, few, same, says.1 ∙ stood) }
 ends-halted s read halt.NoMemory told e input input' out mid out' came few same stood says longer =
     record { read = read; came = came; ends = (longer says.0, few, same, says.1 ∙ stood) }
 

@@ -110,11 +110,13 @@ front-after s d e xs ys old mid new w f =
 says-front : (told : List ℕ × Desk) (h : Halt) (d : Desk) (old new : Written) → Says told (Err h) d old new
     → TakesFront old.taken new.taken told.0
 says-front told halt.WriteFault d old new says = says.0
+says-front told halt.ImageFault d old new says = says.0
 says-front told halt.NoMemory d old new says = says.0
 
 says-halts : (told other : List ℕ × Desk) (h : Halt) (d e : Desk) (old mid new : Written) → mid.faults ≡ old.faults
     → Says told (Err h) d mid new → TakesFront old.taken new.taken other.0 → Says other (Err h) e old new
 says-halts told other halt.WriteFault d e old mid new same says f = (f, subst (λ z. Rose z new.faults) same says.1)
+says-halts told other halt.ImageFault d e old mid new same says f = (f, says.1 ∙ same)
 says-halts told other halt.NoMemory d e old mid new same says f = (f, says.1 ∙ same)
 
 -- the session halts in a later part

@@ -4,6 +4,7 @@ use Rattle.std.specs.declared.option.Option.{Option}
 use Rattle.std.specs.Io.KnownBytes.{Consumes, Keeps, IsAtEnd}
 use Rattle.outside.specs.Causes.{Rose}
 use Rattle.outside.specs.Told.{Takes, TakesFront}
+use Rattle.reverse_seek.specs.Backing.{Backing, Fails}
 use Rattle.reverse_seek.specs.Script.{Script}
 use Rattle.reverse_seek.specs.Timeline.{Timeline}
 use Rattle.monitor.specs.declared.desk.Keeping.{Keeping}
@@ -28,14 +29,21 @@ abbrev pub written : Option (List ℕ) → ℕ → Written
 written taken faults = record { taken = taken; faults = faults }
 
 -- A text was written and this is the desk then; or the sink failed, and a front of it was written;
--- or memory was refused.
+-- or the image failed, or memory was refused.
 abbrev pub Says : List ℕ × Desk → Result Unit Halt → Desk → Written → Written → Type 0
 Says told (Ok done) d old new =
     Takes old.taken new.taken told.0 × (d ≡ told.1) × (new.faults ≡ old.faults)
 Says told (Err halt.WriteFault) d old new =
     TakesFront old.taken new.taken told.0 × Rose old.faults new.faults
+Says told (Err halt.ImageFault) d old new =
+    TakesFront old.taken new.taken told.0 × (new.faults ≡ old.faults)
 Says told (Err halt.NoMemory) d old new =
     TakesFront old.taken new.taken told.0 × (new.faults ≡ old.faults)
+
+-- what a text leaves of the image: all, unless it failed
+abbrev pub TextLeaves : Result Unit Halt → Backing → Backing → Type 0
+TextLeaves (Err halt.ImageFault) old new = Fails old new
+TextLeaves r old new = new ≡ old
 
 -- the most bytes that a session reads
 abbrev pub most : ℕ
@@ -61,6 +69,7 @@ Reads room old new (Err read_stop.NoMemory) = new ≡ old
 -- how a session ends that can't go on
 abbrev pub halted_as : Halt → SessionEnd
 halted_as halt.WriteFault = session_end.WriteFault
+halted_as halt.ImageFault = session_end.ImageFault
 halted_as halt.NoMemory = session_end.NoMemory
 
 abbrev pub closed_as : Result Unit Halt → SessionEnd
@@ -83,6 +92,9 @@ EndsBy s read session_end.ReadFault input input' out out' =
 EndsBy s read session_end.WriteFault input input' out out' =
     TakesFront out.taken out'.taken (transcript s read) × (length read ≤ most)
     × (input'.faults ≡ input.faults) × Rose out.faults out'.faults
+EndsBy s read session_end.ImageFault input input' out out' =
+    TakesFront out.taken out'.taken (transcript s read) × (length read ≤ most)
+    × (input'.faults ≡ input.faults) × (out'.faults ≡ out.faults)
 EndsBy s read session_end.NoMemory input input' out out' =
     TakesFront out.taken out'.taken (transcript s read) × (length read ≤ most)
     × (input'.faults ≡ input.faults) × (out'.faults ≡ out.faults)
@@ -93,3 +105,8 @@ pub record Serves (s : Script) (result : SessionEnd) (input input' : Heard) (out
   pub read : List ℕ
   pub came : Consumes input.left input'.left read
   pub ends : EndsBy s read result input input' out out'
+
+-- what a session leaves of the image: all, unless it failed
+abbrev pub SessionLeaves : SessionEnd → Backing → Backing → Type 0
+SessionLeaves session_end.ImageFault old new = Fails old new
+SessionLeaves end old new = new ≡ old

@@ -4,14 +4,31 @@ ghost use Rattle.std.specs.Prelude.{◌≡◌, ◌++◌, IfOk, string_bytes, cod
 ghost use Rattle.std.specs.Fmt.{decimal};
 ghost use Rattle.monitor.specs.Texts.{hexadecimal, stands_at, past_text, break_text};
 ghost use Rattle.monitor.specs.Texts.{breaks_text as breaks_text_of, breaks_or_none as breaks_or_none_of, replay_text as replay_text_of, error_text as error_text_of};
-ghost use Rattle.monitor.specs.Moves.{Tells, TellsSeek, TellsStepBack, TellsStepOn, TellsRunBack, TellsRunOn};
+ghost use Rattle.monitor.specs.declared.answers.Unanswered.TheVariants as unanswered;
+ghost use Rattle.monitor.specs.Moves.{Tells, Blames, AnswerLeaves, TellsSeek, TellsStepBack, TellsStepOn, TellsRunBack, TellsRunOn};
 
 use crate::command::LineError;
 use board::Steps;
-use outside::NoMemory;
+use outside::{Image, NoMemory};
 use reverse_seek::{SeekError, Timeline};
 use std::alloc::{AllocError, Global};
 use std::sync::ledger::Ledger;
+
+/// Why a command isn't answered.
+#[derive(Clone, Copy, Debug, PartialEq, Eq)]
+pub enum Unanswered {
+    /// The disk's image failed.
+    ImageFault,
+    NoMemory,
+}
+
+impl From<AllocError> for Unanswered {
+    ghost from_gives = { λ _ e. e ≡ unanswered.NoMemory };
+
+    fn from(_error: AllocError) -> Unanswered {
+        Unanswered::NoMemory
+    }
+}
 
 /// A word of 32 bits.
 fn word(alloc: Global, n: u32) -> Result<String, NoMemory>
@@ -73,7 +90,11 @@ fn replay_text(alloc: Global, place: u64, last: u64, breaks: &str) -> Result<Str
 }
 
 /// `info replay`.
-pub fn info_replay(alloc: Global, timeline: &Timeline, breaks: &[u64]) -> Result<String, NoMemory>
+pub fn info_replay<D: Image>(
+    alloc: Global,
+    timeline: &Timeline<D>,
+    breaks: &[u64],
+) -> Result<String, NoMemory>
     ensures { IfOk result (λ s. string_bytes s
         ≡ replay_text_of timeline.now.at timeline.now.script.last breaks.now) }
 {
@@ -82,7 +103,7 @@ pub fn info_replay(alloc: Global, timeline: &Timeline, breaks: &[u64]) -> Result
 }
 
 /// The count at which the timeline stands, and the program counter there.
-fn place(alloc: Global, timeline: &Timeline) -> Result<String, NoMemory>
+fn place<D: Image>(alloc: Global, timeline: &Timeline<D>) -> Result<String, NoMemory>
     ensures { IfOk result (λ s. string_bytes s ≡ stands_at timeline.now.script timeline.now.at) }
 {
     let pc = word(alloc, timeline.machine().pc())?;
@@ -115,87 +136,99 @@ pub fn error_text(alloc: Global, error: LineError) -> Result<String, NoMemory>
 }
 
 /// What is answered after a move.
-fn told(
+fn told<D: Image>(
     alloc: Global,
-    timeline: &Timeline,
+    timeline: &Timeline<D>,
     moved: Result<(), SeekError>,
-) -> Result<String, NoMemory>
-    ensures { IfOk result (λ s. Tells timeline.now moved (string_bytes s)) }
+) -> Result<String, Unanswered>
+    ensures told { IfOk result (λ s. Tells timeline.now moved (string_bytes s)) }
+    ensures blames { Blames moved result }
 {
     match moved {
-        Ok(()) => place(alloc, timeline),
-        Err(SeekError::AtStart) => fixed(alloc, "at the start\n"),
-        Err(SeekError::AtEnd) => fixed(alloc, "at the end\n"),
-        Err(SeekError::NoMemory) => Err(AllocError),
-        Err(SeekError::PastEnd { asked, last }) => past_end(alloc, asked, last),
+        Ok(()) => Ok(place(alloc, timeline)?),
+        Err(SeekError::AtStart) => Ok(fixed(alloc, "at the start\n")?),
+        Err(SeekError::AtEnd) => Ok(fixed(alloc, "at the end\n")?),
+        Err(SeekError::PastEnd { asked, last }) => Ok(past_end(alloc, asked, last)?),
+        Err(SeekError::ImageFailed) => Err(Unanswered::ImageFault),
+        Err(SeekError::NoMemory) => Err(Unanswered::NoMemory),
     }
 }
 
 /// `replay_seek`.
-pub fn seek<L: Ledger>(
+#[tactic(auto, using(crate::proofs::Images::leaving))]
+pub fn seek<D: Image, L: Ledger>(
     alloc: Global,
-    timeline: &mut Timeline,
+    timeline: &mut Timeline<D>,
     n: u64,
     steps: &mut Steps<L>,
-) -> Result<String, NoMemory>
+) -> Result<String, Unanswered>
     ensures told { IfOk result (λ s. TellsSeek n timeline.old timeline.new (string_bytes s)) }
     ensures script { timeline.new.script ≡ timeline.old.script }
+    ensures image { AnswerLeaves result timeline.old.image timeline.new.image }
 {
     let moved = timeline.seek(alloc, n, steps);
     told(alloc, timeline, moved)
 }
 
 /// `reverse-step`.
-pub fn step_back<L: Ledger>(
+#[tactic(auto, using(crate::proofs::Images::leaving))]
+pub fn step_back<D: Image, L: Ledger>(
     alloc: Global,
-    timeline: &mut Timeline,
+    timeline: &mut Timeline<D>,
     steps: &mut Steps<L>,
-) -> Result<String, NoMemory>
+) -> Result<String, Unanswered>
     ensures told { IfOk result (λ s. TellsStepBack timeline.old timeline.new (string_bytes s)) }
     ensures script { timeline.new.script ≡ timeline.old.script }
+    ensures image { AnswerLeaves result timeline.old.image timeline.new.image }
 {
     let moved = timeline.step_back(alloc, steps);
     told(alloc, timeline, moved)
 }
 
 /// `step`.
-pub fn step_on<L: Ledger>(
+#[tactic(auto, using(crate::proofs::Images::leaving))]
+pub fn step_on<D: Image, L: Ledger>(
     alloc: Global,
-    timeline: &mut Timeline,
+    timeline: &mut Timeline<D>,
     steps: &mut Steps<L>,
-) -> Result<String, NoMemory>
+) -> Result<String, Unanswered>
     ensures told { IfOk result (λ s. TellsStepOn timeline.old timeline.new (string_bytes s)) }
     ensures script { timeline.new.script ≡ timeline.old.script }
+    ensures image { AnswerLeaves result timeline.old.image timeline.new.image }
 {
     let moved = timeline.step_on(alloc, steps);
     told(alloc, timeline, moved)
 }
 
 /// `reverse-continue`.
-pub fn run_back<L: Ledger>(
+#[tactic(auto, using(crate::proofs::Images::leaving))]
+pub fn run_back<D: Image, L: Ledger>(
     alloc: Global,
-    timeline: &mut Timeline,
+    timeline: &mut Timeline<D>,
     breaks: &[u64],
     steps: &mut Steps<L>,
-) -> Result<String, NoMemory>
+) -> Result<String, Unanswered>
     ensures told { IfOk result (λ s.
         TellsRunBack breaks.now timeline.old timeline.new (string_bytes s)) }
     ensures script { timeline.new.script ≡ timeline.old.script }
+    ensures image { AnswerLeaves result timeline.old.image timeline.new.image }
 {
     let moved = timeline.run_back(alloc, breaks, steps);
     told(alloc, timeline, moved)
 }
 
 /// `continue`.
-pub fn run_on<L: Ledger>(
+#[tactic(auto, using(crate::proofs::Images::leaving))]
+pub fn run_on<D: Image, L: Ledger>(
     alloc: Global,
-    timeline: &mut Timeline,
+    timeline: &mut Timeline<D>,
     breaks: &[u64],
     steps: &mut Steps<L>,
-) -> Result<String, NoMemory>
+) -> Result<String, Unanswered>
     ensures told { IfOk result (λ s.
         TellsRunOn breaks.now timeline.old timeline.new (string_bytes s)) }
     ensures script { timeline.new.script ≡ timeline.old.script }
+    ensures image { AnswerLeaves result timeline.old.image timeline.new.image }
 {
     let moved = timeline.run_on(alloc, breaks, steps);
     told(alloc, timeline, moved)

@@ -2,15 +2,16 @@
 
 ghost use Rattle.std.specs.Prelude.{◌≡◌, [], false, IfOk, OnOk, string_bytes};
 ghost use Rattle.monitor.specs.Session.{answer as answer_of, whole_line, with_byte, fed, without_return as without_return_of};
-ghost use Rattle.monitor.specs.Serving.{desk_of, Says, written};
+ghost use Rattle.monitor.specs.Moves.{AnswerLeaves};
+ghost use Rattle.monitor.specs.Serving.{desk_of, Says, TextLeaves, written};
 
-use crate::answers;
+use crate::answers::{self, Unanswered};
 use crate::breaks::add_break;
 use crate::command::Command;
 use crate::dumps::dump;
 use crate::parse::parse_line;
 use board::Steps;
-use outside::{Careful, NoMemory, Sink};
+use outside::{Careful, Image, NoMemory, Sink};
 use reverse_seek::Timeline;
 use std::alloc::Global;
 use std::sync::ledger::Ledger;
@@ -30,6 +31,7 @@ pub struct Keeping {
 #[derive(Clone, Copy, Debug, PartialEq, Eq)]
 pub enum Halt {
     WriteFault,
+    ImageFault,
     NoMemory,
 }
 
@@ -61,7 +63,12 @@ impl Keeping {
     }
 
     /// Sets a break, unless it lies past the end.
-    fn set_break(&mut self, alloc: Global, timeline: &Timeline, n: u64) -> Result<String, NoMemory>
+    fn set_break<D: Image>(
+        &mut self,
+        alloc: Global,
+        timeline: &Timeline<D>,
+        n: u64,
+    ) -> Result<String, NoMemory>
         ensures { IfOk result (λ s. (string_bytes s, desk_of timeline.now self.new)
             ≡ answer_of timeline.now.script (desk_of timeline.now self.old) (Command.Break n)) }
     {
@@ -75,31 +82,34 @@ impl Keeping {
 
     /// The answer to a command.
     #[tactic(auto, using(crate::proofs::Answering::moving))]
-    fn answer<L: Ledger>(
+    fn answer<D: Image, L: Ledger>(
         &mut self,
         alloc: Global,
-        timeline: &mut Timeline,
+        timeline: &mut Timeline<D>,
         asked: Command,
         steps: &mut Steps<L>,
-    ) -> Result<String, NoMemory>
+    ) -> Result<String, Unanswered>
         ensures told { IfOk result (λ s. (string_bytes s, desk_of timeline.new self.new)
             ≡ answer_of timeline.old.script (desk_of timeline.old self.old) asked) }
         ensures script { timeline.new.script ≡ timeline.old.script }
+        ensures image { AnswerLeaves result timeline.old.image timeline.new.image }
     {
         match asked {
-            Command::InfoReplay => answers::info_replay(alloc, timeline, self.breaks.as_slice()),
-            Command::InfoRegisters => timeline.machine().show(alloc),
-            Command::Break(n) => self.set_break(alloc, timeline, n),
+            Command::InfoReplay => {
+                Ok(answers::info_replay(alloc, timeline, self.breaks.as_slice())?)
+            }
+            Command::InfoRegisters => Ok(timeline.machine().show(alloc)?),
+            Command::Break(n) => Ok(self.set_break(alloc, timeline, n)?),
             Command::DeleteBreak => {
                 self.breaks.clear();
-                answers::fixed(alloc, "breaks deleted\n")
+                Ok(answers::fixed(alloc, "breaks deleted\n")?)
             }
             Command::Seek(n) => answers::seek(alloc, timeline, n, steps),
             Command::StepBack => answers::step_back(alloc, timeline, steps),
             Command::RunBack => answers::run_back(alloc, timeline, self.breaks.as_slice(), steps),
             Command::StepOn => answers::step_on(alloc, timeline, steps),
             Command::RunOn => answers::run_on(alloc, timeline, self.breaks.as_slice(), steps),
-            Command::Dump(at, len) => dump(alloc, timeline.machine(), at, len),
+            Command::Dump(at, len) => Ok(dump(alloc, timeline.machine(), at, len)?),
             Command::Quit => {
                 self.quit = true;
                 Ok(String::new(alloc))
@@ -110,30 +120,31 @@ impl Keeping {
 
     /// The answer to a line that is whole.
     #[tactic(auto, unfolding(crate::specs::Session::whole_line))]
-    fn answer_line<L: Ledger>(
+    fn answer_line<D: Image, L: Ledger>(
         &mut self,
         alloc: Global,
-        timeline: &mut Timeline,
+        timeline: &mut Timeline<D>,
         steps: &mut Steps<L>,
-    ) -> Result<String, NoMemory>
+    ) -> Result<String, Unanswered>
         ensures told { IfOk result (λ s. (string_bytes s, desk_of timeline.new self.new)
             ≡ whole_line timeline.old.script (desk_of timeline.old self.old)) }
         ensures script { timeline.new.script ≡ timeline.old.script }
+        ensures image { AnswerLeaves result timeline.old.image timeline.new.image }
     {
         let asked = parse_line(without_return(self.line.as_slice()));
         self.line.clear();
         match asked {
             Ok(command) => self.answer(alloc, timeline, command, steps),
-            Err(error) => answers::error_text(alloc, error),
+            Err(error) => Ok(answers::error_text(alloc, error)?),
         }
     }
 
     /// Answers a line that is whole.
     #[tactic(auto, using(crate::proofs::Answering::saying))]
-    pub fn end_line<S: Sink, L: Ledger>(
+    pub fn end_line<D: Image, S: Sink, L: Ledger>(
         &mut self,
         alloc: Global,
-        timeline: &mut Timeline,
+        timeline: &mut Timeline<D>,
         out: &mut Careful<S>,
         steps: &mut Steps<L>,
     ) -> Result<(), Halt>
@@ -142,10 +153,13 @@ impl Keeping {
             (written (S.taken out.old) (S.faults out.old))
             (written (S.taken out.new) (S.faults out.new)) }
         ensures script { timeline.new.script ≡ timeline.old.script }
+        ensures image { TextLeaves result timeline.old.image timeline.new.image }
         ensures role { S.role out.new ≡ S.role out.old }
     {
-        let Ok(text) = self.answer_line(alloc, timeline, steps) else {
-            return Err(Halt::NoMemory);
+        let text = match self.answer_line(alloc, timeline, steps) {
+            Ok(text) => text,
+            Err(Unanswered::ImageFault) => return Err(Halt::ImageFault),
+            Err(Unanswered::NoMemory) => return Err(Halt::NoMemory),
         };
         match out.put_all(text.as_bytes()) {
             Ok(()) => Ok(()),
@@ -155,10 +169,10 @@ impl Keeping {
 
     /// Takes a byte, and answers the line that it ends.
     #[tactic(auto, unfolding(crate::specs::Session::with_byte))]
-    fn take_byte<S: Sink, L: Ledger>(
+    fn take_byte<D: Image, S: Sink, L: Ledger>(
         &mut self,
         alloc: Global,
-        timeline: &mut Timeline,
+        timeline: &mut Timeline<D>,
         byte: u8,
         out: &mut Careful<S>,
         steps: &mut Steps<L>,
@@ -169,6 +183,7 @@ impl Keeping {
             (written (S.taken out.old) (S.faults out.old))
             (written (S.taken out.new) (S.faults out.new)) }
         ensures script { timeline.new.script ≡ timeline.old.script }
+        ensures image { TextLeaves result timeline.old.image timeline.new.image }
         ensures role { S.role out.new ≡ S.role out.old }
     {
         if byte == b'\n' {
@@ -181,10 +196,10 @@ impl Keeping {
     }
 
     /// Takes bytes, up to `quit`, and answers each line before the next.
-    pub fn take_bytes<S: Sink, L: Ledger>(
+    pub fn take_bytes<D: Image, S: Sink, L: Ledger>(
         &mut self,
         alloc: Global,
-        timeline: &mut Timeline,
+        timeline: &mut Timeline<D>,
         bytes: &[u8],
         out: &mut Careful<S>,
         steps: &mut Steps<L>,
@@ -195,6 +210,7 @@ impl Keeping {
             (written (S.taken out.old) (S.faults out.old))
             (written (S.taken out.new) (S.faults out.new)) }
         ensures script { timeline.new.script ≡ timeline.old.script }
+        ensures image { TextLeaves result timeline.old.image timeline.new.image }
         ensures role { S.role out.new ≡ S.role out.old }
     {
         for byte in bytes {

@@ -2,11 +2,12 @@
 
 ghost use Rattle.std.specs.Prelude.{◌≡◌, ◌≤◌, ◌<◌, ◌+◌, false};
 ghost use Rattle.monitor.specs.Serving.{Serves, Reads, halted_as, closed_as, desk_of, Says, written, heard, most};
+ghost use Rattle.monitor.specs.Serving.{TextLeaves, SessionLeaves};
 ghost use Rattle.monitor.specs.Session.{at_end};
 
 use crate::desk::{Halt, Keeping};
 use board::Steps;
-use outside::{Bytes, Careful, Sink, Source};
+use outside::{Bytes, Careful, Image, Sink, Source};
 use reverse_seek::Timeline;
 use std::alloc::Global;
 use std::sync::ledger::Ledger;
@@ -22,6 +23,8 @@ pub enum SessionEnd {
     WriteFault,
     /// After 2^20 bytes, none of which ended the session, one more came.
     TooMuchInput,
+    /// The disk's image failed.
+    ImageFault,
     NoMemory,
 }
 
@@ -76,6 +79,7 @@ fn halted(halt: Halt) -> SessionEnd
 {
     match halt {
         Halt::WriteFault => SessionEnd::WriteFault,
+        Halt::ImageFault => SessionEnd::ImageFault,
         Halt::NoMemory => SessionEnd::NoMemory,
     }
 }
@@ -91,10 +95,10 @@ fn closed(closed: Result<(), Halt>) -> SessionEnd
 }
 
 /// Answers a last line that ends with the input.
-fn close<S: Sink, L: Ledger>(
+fn close<D: Image, S: Sink, L: Ledger>(
     alloc: Global,
     keeping: &mut Keeping,
-    timeline: &mut Timeline,
+    timeline: &mut Timeline<D>,
     out: &mut Careful<S>,
     steps: &mut Steps<L>,
 ) -> Result<(), Halt>
@@ -107,6 +111,7 @@ fn close<S: Sink, L: Ledger>(
         (written (S.taken out.old) (S.faults out.old))
         (written (S.taken out.new) (S.faults out.new)) }
     ensures script { timeline.new.script ≡ timeline.old.script }
+    ensures image { TextLeaves result timeline.old.image timeline.new.image }
     ensures role { S.role out.new ≡ S.role out.old }
 {
     if keeping.line.is_empty() {
@@ -120,9 +125,9 @@ fn close<S: Sink, L: Ledger>(
 ///
 /// What it writes is the transcript of the bytes that it read. A line ends with a line feed, before
 /// which a carriage return doesn't count; a last line without a line feed is answered too.
-pub fn session<I: Source, S: Sink, L: Ledger>(
+pub fn session<D: Image, I: Source, S: Sink, L: Ledger>(
     alloc: Global,
-    timeline: &mut Timeline,
+    timeline: &mut Timeline<D>,
     input: &mut I,
     out: &mut Careful<S>,
     steps: &mut Steps<L>,
@@ -134,6 +139,7 @@ pub fn session<I: Source, S: Sink, L: Ledger>(
         (written (S.taken out.old) (S.faults out.old))
         (written (S.taken out.new) (S.faults out.new)) }
     ensures script { timeline.new.script ≡ timeline.old.script }
+    ensures image { SessionLeaves result timeline.old.image timeline.new.image }
     ensures role { S.role out.new ≡ S.role out.old }
 {
     let mut keeping = Keeping::new(alloc);

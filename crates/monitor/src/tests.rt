@@ -6,7 +6,7 @@ use super::*;
 use board::Steps;
 use elf_load::load;
 use event_log::{Header, put_header};
-use outside::{Careful, MemSink, MemSource};
+use outside::{Careful, MemSink, MemSource, SureImage};
 use std::alloc::Global;
 use std::marker::Brand;
 use std::process::Abort;
@@ -66,7 +66,17 @@ fn answered<L: Ledger>(
     let bytes = input.as_bytes().to_vec(alloc)?;
     let mut source = MemSource::new(bytes, Vec::new(alloc), Vec::new(alloc));
     let mut out = Careful::new(MemSink::new(alloc, Vec::new(alloc)));
-    let end = debug_log(alloc, &HEADER, log, &firmware, &mut source, &mut out, steps);
+    let disk = SureImage::new(Vec::new(alloc));
+    let (end, _) = debug_log(
+        alloc,
+        &HEADER,
+        log,
+        &firmware,
+        disk,
+        &mut source,
+        &mut out,
+        steps,
+    );
     let accepted = matches!(&end, DebugEnd::Done);
     assert!(rt; accepted || matches!(&end, DebugEnd::Refused(_)));
     Ok((out.into_inner().bytes().to_vec(alloc)?, accepted))

@@ -1,6 +1,7 @@
 use Rattle.std.proofs.Common.{rules, ◌≡◌, ◌<◌, length, refl, sym, ◌∙◌, subst, arith}
-use Rattle.monitor.specs.Serving.{Serves, desk_of, written, heard, most}
+use Rattle.monitor.specs.Serving.{Serves, SessionLeaves, desk_of, written, heard, most}
 use Rattle.monitor.proofs.Ending.{served-none, served-on, fresh-is, ends-at-close, ends-over, ends-in-bytes}
+use Rattle.monitor.proofs.Images.{closed-leaves, halted-leaves}
 use Rattle.monitor.proofs.sessions.session.Goals as goal
 
 pub loop-keeping-init : goal.loop-keeping-init
@@ -10,6 +11,7 @@ loop-keeping-init g c = record {
       (written (g.S.Sink.taken c.args.out.now) (g.S.Sink.faults c.args.out.now))
       (fresh-is c.args.timeline.now.at _ _ c.new-keeping.result.quit c.requires c.new-keeping.ensures.breaks c.new-keeping.ensures.line c.new-keeping.ensures.quit);
   script = refl;
+  image = refl;
   role = refl;
 }
 
@@ -79,5 +81,18 @@ loop-keeping-preserved g c =
           tt c.loop-keeping.invariant.served c.loop-keeping.invariant.script c.as_slice-bytes.ensures c.in-Ok.ensures
           (c.room_after.ensures.rest less) c.in_default.ensures.says;
       script = c.in_default.ensures.script ∙ c.loop-keeping.invariant.script;
+      image = c.in_default.ensures.image ∙ c.loop-keeping.invariant.image;
       role = c.in_default.ensures.role ∙ c.loop-keeping.invariant.role;
     }
+
+pub returns-then-is_empty-clause-image : goal.returns-then-is_empty-clause-image
+returns-then-is_empty-clause-image g c =
+    subst (λ z. SessionLeaves z c.args.timeline.now.image c.close.new.timeline.image) (sym c.closed.ensures)
+    (closed-leaves c.close.result c.args.timeline.now.image c.loop-keeping.timeline.image c.close.new.timeline.image
+    c.loop-keeping.invariant.image c.close.ensures.image)
+
+pub returns-in-Err-clause-image : goal.returns-in-Err-clause-image
+returns-in-Err-clause-image g c =
+    subst (λ z. SessionLeaves z c.args.timeline.now.image c.take_bytes.new.timeline.image) (sym c.halted.ensures)
+    (halted-leaves c.in-Err.halt c.args.timeline.now.image c.loop-keeping.timeline.image c.take_bytes.new.timeline.image
+    c.loop-keeping.invariant.image c.in-Err.ensures.image)

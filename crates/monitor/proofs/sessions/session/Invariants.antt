@@ -11,6 +11,7 @@ invariant-loop-keeping g l = record {
       (written (g.S.Sink.taken l.fn.out) (g.S.Sink.faults l.fn.out))
       (written (g.S.Sink.taken l.out) (g.S.Sink.faults l.out));
   script : l.timeline.script ≡ l.fn.timeline.script;
+  image : l.timeline.image ≡ l.fn.timeline.image;
   role : g.S.Sink.role l.out ≡ g.S.Sink.role l.fn.out;
 }
 

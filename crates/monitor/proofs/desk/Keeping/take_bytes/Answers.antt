@@ -2,6 +2,7 @@ use Rattle.std.proofs.Common.{rules, ◌≡◌, refl, ◌∙◌}
 use Rattle.std.specs.Prelude.{Err}
 use Rattle.monitor.specs.Serving.{desk_of, written}
 use Rattle.monitor.proofs.Fed.{went-none, quit-at, halts-at, went-at}
+use Rattle.monitor.proofs.Images.{text-leaves}
 use Rattle.monitor.proofs.desk.Keeping.take_bytes.Goals as goal
 
 pub loop-byte-init : goal.loop-byte-init
@@ -9,6 +10,7 @@ loop-byte-init g c = record {
   went = went-none c.args.timeline.now.script (desk_of c.args.timeline.now c.args.self.now)
       (written (g.S.Sink.taken c.args.out.now) (g.S.Sink.faults c.args.out.now));
   script = refl;
+  image = refl;
   role = refl;
 }
 
@@ -43,5 +45,12 @@ loop-byte-preserved g c = record {
       c.loop-byte-test.true c.loop-byte.invariant.script c.loop-byte.invariant.went c.if-self.false
       c.in_ok-take_byte.ensures.says;
   script = c.in_ok-take_byte.ensures.script ∙ c.loop-byte.invariant.script;
+  image = c.in_ok-take_byte.ensures.image ∙ c.loop-byte.invariant.image;
   role = c.in_ok-take_byte.ensures.role ∙ c.loop-byte.invariant.role;
 }
+
+pub returns-in_err-take_byte-clause-image : goal.returns-in_err-take_byte-clause-image
+returns-in_err-take_byte-clause-image g c =
+    let why : c.from_residual.result ≡ Err c.in_err-take_byte.field-0.0 = search rules in
+    rw why (text-leaves (Err c.in_err-take_byte.field-0.0) c.args.timeline.now.image c.loop-byte.timeline.image c.take_byte.new.timeline.image
+    c.loop-byte.invariant.image c.in_err-take_byte.ensures.image)

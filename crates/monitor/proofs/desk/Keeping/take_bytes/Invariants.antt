@@ -9,5 +9,6 @@ invariant-loop-byte g l = record {
       (written (g.S.Sink.taken l.fn.out) (g.S.Sink.faults l.fn.out))
       (written (g.S.Sink.taken l.out) (g.S.Sink.faults l.out));
   script : l.timeline.script ≡ l.fn.timeline.script;
+  image : l.timeline.image ≡ l.fn.timeline.image;
   role : g.S.Sink.role l.out ≡ g.S.Sink.role l.fn.out;
 }
