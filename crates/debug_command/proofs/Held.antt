@@ -19,6 +19,7 @@ use Rattle.monitor.specs.Debugging.{ended_as}
 use Rattle.monitor.specs.declared.sessions.SessionEnd.{SessionEnd}
 use Rattle.monitor.specs.declared.sessions.SessionEnd.TheVariants as session_end
 use Rattle.monitor.specs.declared.debugging.DebugEnd.{DebugEnd}
+use Rattle.monitor.specs.declared.debugging.DebugEnd.TheVariants.{NoMemory}
 use Rattle.run_files.specs.Headers.{HasHeader}
 use Rattle.run_files.specs.Images.{IsFirmware, NamesNoDisk}
 use Rattle.debug_command.specs.declared.debugging.TheConstants.{LOG_LIMIT}
@@ -98,7 +99,7 @@ end-cause : (log bios : List ℕ) (bytes : List ℕ) (h : Header) (f : Loaded) (
     (s : Script) (refusal : Option Refusal) (end : SessionEnd)
     → Begins (old.names log) (old.names bios) bytes h f
     → Reads (start_of h f) bytes s refusal → Served s end old new
-    → DebugCause log bios old new (session_outcome_of (ended_as end refusal))
+    → IfSome (session_outcome_of (ended_as end refusal)) (DebugCause log bios old new)
 end-cause log bios bytes h f old new s None session_end.Done b reads serves =
     is-held (old.names log) (old.names bios) bytes h f s None session_end.Done old new b reads serves
 end-cause log bios bytes h f old new s (Some r) session_end.Done b reads serves =
@@ -117,6 +118,7 @@ end-cause log bios bytes h f old new s refusal session_end.WriteFault b reads se
 end-cause log bios bytes h f old new s refusal session_end.TooMuchInput b reads serves =
     is-held-to (old.names log) (old.names bios) bytes h f s refusal session_end.TooMuchInput old new
     b reads serves
+end-cause log bios bytes h f old new s refusal session_end.ImageFault b reads serves = tt
 end-cause log bios bytes h f old new s refusal session_end.NoMemory b reads serves = tt
 
 -- the streams are as they were before the files were read
@@ -128,16 +130,22 @@ from-old s end old mid new r serves =
     (subst (λ (z : Written). Serves s end (input_before mid) (input_after new) z (output_after new))
     r.output serves)
 
+of-some : {X : Type 0} (o : Option X) (x : X) (P : X → Type 0) → o ≡ Some x → IfSome o P → P x
+of-some o x P same h = let k : IfSome (Some x) P = subst (λ z. IfSome z P) same h in k
+
 pub held-cause : (log bios : List ℕ) (bytes : List ℕ) (h : Header) (f : Loaded)
-    (old mid new : Ledger) (end : DebugEnd) → Begins (old.names log) (old.names bios) bytes h f
+    (old mid new : Ledger) (end : DebugEnd) (o : Outcome)
+    → Begins (old.names log) (old.names bios) bytes h f
     → FilesRead old mid → HoldsOver (start_of h f) bytes end mid new
-    → DebugCause log bios old new (session_outcome_of end)
-held-cause log bios bytes h f old mid new end b r (inl w) =
-    subst (λ (z : DebugEnd). DebugCause log bios old new (session_outcome_of z)) (sym w.is)
+    → session_outcome_of end ≡ Some o → DebugCause log bios old new o
+held-cause log bios bytes h f old mid new end o b r (inl w) is =
+    of-some (session_outcome_of (ended_as w.end w.refusal)) o (DebugCause log bios old new)
+    (ap session_outcome_of (sym w.is) ∙ is)
     (end-cause log bios bytes h f old new w.script w.refusal w.end b w.reads
     (from-old w.script w.end old mid new r w.serves))
-held-cause log bios bytes h f old mid new end b r (inr none) =
-    subst (λ (z : DebugEnd). DebugCause log bios old new (session_outcome_of z)) (sym none.is) tt
+held-cause log bios bytes h f old mid new end o b r (inr none) is =
+    of-some (session_outcome_of NoMemory) o (DebugCause log bios old new)
+    (ap session_outcome_of (sym none.is) ∙ is) tt
 
 -- the cause of an outcome that is this one
 pub as-outcome : (log bios : List ℕ) (old new : Ledger) (result due : Outcome) → result ≡ due
@@ -192,6 +200,11 @@ front-of s session_end.ReadFault old new v = record {
       (TakesFront-all (Some []) (at new.last ConsoleOut) (answered s v.read) v.ends.0);
 }
 front-of s session_end.WriteFault old new v = record {
+  read = v.read;
+  began = began-by old.input (at new.left ConsoleIn) v.read v.came;
+  front = v.ends.0;
+}
+front-of s session_end.ImageFault old new v = record {
   read = v.read;
   began = began-by old.input (at new.left ConsoleIn) v.read v.came;
   front = v.ends.0;

@@ -1,5 +1,5 @@
 -- A session over streams that were just opened, and were given back; or that weren't opened.
-use Rattle.std.proofs.Common.{◌≡◌, ℕ, List, refl, sym, ap, ◌∙◌, subst, inl, inr, arith}
+use Rattle.std.proofs.Common.{◌≡◌, ◌≢◌, ℕ, List, refl, sym, ap, ◌∙◌, subst, inl, inr, arith}
 use Rattle.std.specs.Prelude.{None}
 use Rattle.std.specs.declared.option.Option.{Option}
 use Rattle.std.specs.Io.KnownBytes.{Consumes}
@@ -15,10 +15,12 @@ use Rattle.outside.proofs.ToldLemmas.{Takes-start, TakesFront-start}
 use Rattle.board.specs.State.{State}
 use Rattle.reverse_seek.specs.Script.{Script}
 use Rattle.monitor.specs.Serving.{Heard, Written, EndsBy, heard, written}
-use Rattle.monitor.specs.Debugging.{Session, Debugs}
+use Rattle.reverse_seek.specs.Backing.{Backing}
+use Rattle.monitor.specs.Debugging.{Session, Debugs, DebugLeaves}
 use Rattle.monitor.specs.declared.sessions.SessionEnd.{SessionEnd}
 use Rattle.monitor.specs.declared.sessions.SessionEnd.TheVariants as session_end
 use Rattle.monitor.specs.declared.debugging.DebugEnd.{DebugEnd}
+use Rattle.monitor.specs.declared.debugging.DebugEnd.TheVariants as debug_end
 use Rattle.debug_command.specs.Debugs.{HoldsOver, input_before, output_before, stream_openings}
 
 -- the counts of a stream that had no fault, once it was given back
@@ -72,6 +74,12 @@ ends-counted s read session_end.WriteFault l i i' o o' f e = (
   kept-count (at l.faults ConsoleIn) i'.faults i.faults e.2 f.input_faults,
   risen-count (at l.faults ConsoleOut) o'.faults o.faults e.3 f.output_faults,
 )
+ends-counted s read session_end.ImageFault l i i' o o' f e = (
+  TakesFront-start o.taken o'.taken _ f.output e.0,
+  e.1,
+  kept-count (at l.faults ConsoleIn) i'.faults i.faults e.2 f.input_faults,
+  kept-count (at l.faults ConsoleOut) o'.faults o.faults e.3 f.output_faults,
+)
 ends-counted s read session_end.NoMemory l i i' o o' f e = (
   TakesFront-start o.taken o'.taken _ f.output e.0,
   e.1,
@@ -102,12 +110,12 @@ streams_back l i o =
     ConsoleIn i.faults i.left) ConsoleOut o.faults o.taken
 
 holds : (start : State) (log : List ℕ) (result : DebugEnd) (l : Ledger) (i i' : Heard)
-    (o o' : Written) → Fresh l i o → Debugs start log result i i' o o'
-    → HoldsOver start log result l (streams_back l i' o')
-holds start log result l i i' o o' f (inl w) =
+    (o o' : Written) → Fresh l i o → result ≢ debug_end.ImageFault
+    → Debugs start log result i i' o o' → HoldsOver start log result l (streams_back l i' o')
+holds start log result l i i' o o' f sound (inl w) =
     inl (session-counted start log result l i i' o o' f w)
-holds start log result l i i' o o' f (inr none) = inr (record {
-  is = none.0;
+holds start log result l i i' o o' f sound (inr none) = inr (record {
+  is = elim none.0 [ inl failed ↦ absurd (sound failed) | inr memory ↦ memory ];
   input = kept-count (at l.faults ConsoleIn) i'.faults i.faults
       (ap (λ (z : Heard). z.faults) none.1) f.input_faults;
   output = kept-count (at l.faults ConsoleOut) o'.faults o.faults
@@ -115,16 +123,27 @@ holds start log result l i i' o o' f (inr none) = inr (record {
   bare = λ more. subst (λ (z : Written). StartsEmpty z.taken) (sym none.2) f.output;
 })
 
+-- an image that never fails ends no session
+pub sound-image : (result : DebugEnd) (old new : Backing) → old.faults ≡ 0 → new.faults ≡ 0 → DebugLeaves result old new
+    → result ≢ debug_end.ImageFault
+sound-image debug_end.Done old new none never leaves is = absurd cc
+sound-image (debug_end.Refused r) old new none never leaves is = absurd cc
+sound-image debug_end.ReadFault old new none never leaves is = absurd cc
+sound-image debug_end.WriteFault old new none never leaves is = absurd cc
+sound-image debug_end.TooMuchInput old new none never leaves is = absurd cc
+sound-image debug_end.ImageFault old new none never leaves is = omega (arith, leaves.rose, none, never)
+sound-image debug_end.NoMemory old new none never leaves is = absurd cc
+
 -- the session's streams were opened, and given back
 pub held-over : (start : State) (log : List ℕ) (result : DebugEnd) (l first mid k new : Ledger)
     (i i' : Heard) (o o' : Written)
     → i.left ≡ l.input → i.faults ≡ 0 → StartsEmpty o.taken → o.faults ≡ 0
-    → Debugs start log result i i' o o'
+    → result ≢ debug_end.ImageFault → Debugs start log result i i' o o'
     → first ≡ opens l ConsoleIn None → mid ≡ opens_sink first ConsoleOut None
     → k ≡ source_back mid ConsoleIn i'.faults i'.left
     → new ≡ sink_back k ConsoleOut o'.faults o'.taken
     → HoldsOver start log result l new
-held-over start log result l first mid k new i i' o o' left fi empty fo d one two three four =
+held-over start log result l first mid k new i i' o o' left fi empty fo sound d one two three four =
     let back : new ≡ streams_back l i' o' =
     four ∙ ap (λ (z : Ledger). sink_back z ConsoleOut o'.faults o'.taken) (
     three
@@ -133,7 +152,7 @@ held-over start log result l first mid k new i i' o o' left fi empty fo d one tw
     ) in
     subst (λ (z : Ledger). HoldsOver start log result l z) (sym back)
     (holds start log result l i i' o o'
-    (record { input = left; input_faults = fi; output = empty; output_faults = fo }) d)
+    (record { input = left; input_faults = fi; output = empty; output_faults = fo }) sound d)
 
 -- a stream without a name isn't opened for want of memory alone, so nothing happened
 unopened : (old new : Ledger) (e : OpenError) → (e ≡ open_error.Failed → ⊥)

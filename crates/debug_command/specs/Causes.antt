@@ -87,11 +87,12 @@ unheaded_outcome_of (parse.Bad offset rule) = HeaderRefused offset
 unheaded_outcome_of (parse.Cut offset) = HeaderRefused offset
 unheaded_outcome_of parse.NoMemory = NoMemory
 
--- how the session ended
-abbrev pub session_outcome_of : DebugEnd → Outcome
-session_outcome_of debug_end.Done = Printed
-session_outcome_of (debug_end.Refused r) = LogRefused r
-session_outcome_of debug_end.ReadFault = CommandsUnreadable
-session_outcome_of debug_end.WriteFault = QuietFailed
-session_outcome_of debug_end.TooMuchInput = TooMuchInput
-session_outcome_of debug_end.NoMemory = NoMemory
+-- how the session ended, unless by an image that failed
+abbrev pub session_outcome_of : DebugEnd → Option Outcome
+session_outcome_of debug_end.Done = Some Printed
+session_outcome_of (debug_end.Refused r) = Some (LogRefused r)
+session_outcome_of debug_end.ReadFault = Some CommandsUnreadable
+session_outcome_of debug_end.WriteFault = Some QuietFailed
+session_outcome_of debug_end.TooMuchInput = Some TooMuchInput
+session_outcome_of debug_end.ImageFault = None
+session_outcome_of debug_end.NoMemory = Some NoMemory

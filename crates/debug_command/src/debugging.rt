@@ -1,7 +1,7 @@
 //! A debugging session on a recorded run: its files are read, its streams opened, and all is given
 //! back.
 
-ghost use Rattle.std.specs.Prelude.{◌≡◌, ◌<◌, ◌≤◌, ◌^◌, length};
+ghost use Rattle.std.specs.Prelude.{◌≡◌, ◌≢◌, ◌<◌, ◌≤◌, ◌^◌, length};
 ghost use Rattle.outside.specs.Openings.{OpensFront};
 ghost use Rattle.outside.specs.Roles.{at};
 ghost use Rattle.outside.specs.declared.roles.Role.TheVariants.{ConsoleIn, ConsoleOut, LogIn, Firmware};
@@ -9,6 +9,7 @@ ghost use Rattle.elf_load.specs.Load.{LiesInRam};
 ghost use Rattle.event_log.specs.HeaderFormat.{IsHeader};
 ghost use Rattle.board.specs.Reset.{start_of};
 ghost use Rattle.reverse_seek.specs.Script.{first_place};
+ghost use Rattle.monitor.specs.declared.debugging.DebugEnd.TheVariants.{ImageFault};
 ghost use Rattle.run_files.specs.Ledgers.{Balanced};
 ghost use Rattle.debug_command.specs.Debugs.{HoldsOver, IsUnread, IsShown, stream_openings, debug_openings, only_holding, only_debugging};
 ghost use Rattle.commands.specs.Faults.{fault_of, KeptBut};
@@ -21,7 +22,7 @@ use commands::{Outcome, image_outcome};
 use elf_load::Loaded;
 use event_log::{Header, read_header};
 use monitor::{DebugEnd, debug_log};
-use outside::{Careful, Role, World};
+use outside::{Careful, Role, SureImage, World};
 use run_files::{read_file, read_image};
 use std::alloc::Global;
 use std::sync::ledger::Ledger;
@@ -29,7 +30,8 @@ use std::sync::ledger::Ledger;
 /// The most bytes that a log may have.
 pub const LOG_LIMIT: usize = 268_435_456;
 
-/// Opens standard input and output, holds the session over them, and gives them back.
+/// Opens standard input and output, holds the session over them and a disk without bytes, and gives
+/// them back.
 #[tactic(auto, using(outside::proofs::Fronts::openings))]
 fn hold<W: World, L: Ledger>(
     alloc: Global,
@@ -42,6 +44,8 @@ fn hold<W: World, L: Ledger>(
     requires header { IsHeader header.now }
     requires firmware { LiesInRam header.now.ram_mib firmware.now }
     requires log { first_place ≤ length log.items }
+    requires disk { header.now.disk_len ≡ 0 }
+    ensures sound { result ≢ ImageFault }
     ensures held { HoldsOver (start_of header.now firmware.now) log.items result
         (W.ledger world.old) (W.ledger world.new) }
     ensures quiet { at (W.ledger world.new).opened ConsoleOut
@@ -64,7 +68,10 @@ fn hold<W: World, L: Ledger>(
             return DebugEnd::NoMemory;
         }
     };
-    let end = debug_log(alloc, header, log, firmware, &mut input, &mut out, steps);
+    let disk = SureImage::new(Vec::new(alloc));
+    let (end, _) = debug_log(
+        alloc, header, log, firmware, disk, &mut input, &mut out, steps,
+    );
     world.take_source(Role::ConsoleIn, input);
     world.take_sink(Role::ConsoleOut, out.into_inner());
     end

@@ -1,6 +1,7 @@
 //! How the parts of a debugging session come out.
 
-ghost use Rattle.std.specs.Prelude.{◌≡◌};
+ghost use Rattle.std.specs.Prelude.{◌≡◌, ◌≢◌, Some};
+ghost use Rattle.monitor.specs.declared.debugging.DebugEnd.TheVariants.{ImageFault};
 ghost use Rattle.debug_command.specs.Causes.{log_outcome_of, unheaded_outcome_of, session_outcome_of};
 
 use commands::Outcome;
@@ -32,9 +33,10 @@ pub fn unheaded_outcome(error: ParseError) -> Outcome
     }
 }
 
-/// How the session ended.
+/// How the session ended, whose image can't fail.
 pub fn session_outcome(end: DebugEnd) -> Outcome
-    ensures { result ≡ session_outcome_of end }
+    requires { end ≢ ImageFault }
+    ensures { session_outcome_of end ≡ Some result }
 {
     match end {
         DebugEnd::Done => Outcome::Printed,
@@ -42,6 +44,7 @@ pub fn session_outcome(end: DebugEnd) -> Outcome
         DebugEnd::ReadFault => Outcome::CommandsUnreadable,
         DebugEnd::WriteFault => Outcome::QuietFailed,
         DebugEnd::TooMuchInput => Outcome::TooMuchInput,
+        DebugEnd::ImageFault => unreachable!(),
         DebugEnd::NoMemory => Outcome::NoMemory,
     }
 }

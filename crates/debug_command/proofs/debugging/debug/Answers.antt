@@ -5,7 +5,6 @@ use Rattle.outside.proofs.OpeningLemmas.{OpensFront-after, OpensFront-longer}
 use Rattle.run_files.specs.Files.{firmware_opening}
 use Rattle.commands.specs.Asking.{image_outcome_of}
 use Rattle.debug_command.specs.Debugs.{stream_openings}
-use Rattle.debug_command.specs.Causes.{session_outcome_of}
 use Rattle.debug_command.proofs.Held.{as-outcome, held-cause, held-shown}
 use Rattle.debug_command.proofs.Files.{has-header, header-fits, image-cause, begun, files-read}
 use Rattle.debug_command.proofs.debugging.debug.Goals as goal
@@ -76,11 +75,9 @@ returns-in-Ok-read_image-clause-cause g c =
     let begins = begun log bios bytes h f old first c.in-Ok.ensures.whole c.in-Ok.ensures.short
     (has-header bytes c.deref.result.now h c.deref.ensures.value c.in-Ok-read_header.ensures)
     c.in-Ok.ensures.rest c.in-Ok-read_image.ensures.ok c.in-Ok-read_image.ensures.disk in
-    as-outcome log bios old new c.session_outcome.result (session_outcome_of c.hold.result)
-    c.session_outcome.ensures
-    (held-cause log bios bytes h f old mid new c.hold.result begins
+    held-cause log bios bytes h f old mid new c.hold.result c.session_outcome.result begins
     (files-read old first mid c.in-Ok.ensures.rest c.in-Ok-read_image.ensures.rest)
-    c.hold.ensures.held)
+    c.hold.ensures.held c.session_outcome.ensures
 
 pub returns-in-Ok-read_image-clause-shown : goal.returns-in-Ok-read_image-clause-shown
 returns-in-Ok-read_image-clause-shown g c = λ more.
