@@ -4,7 +4,7 @@ use Rattle.std.specs.Prelude.{nat_le, Option, Some}
 use Rattle.std.specs.List.{AllByRecursion}
 use Rattle.std.proofs.lemmas.Bool.{cases_Bool, leb-true, leb-false}
 use Rattle.event_log.specs.declared.event.Event.{Event}
-use Rattle.event_log.specs.declared.event.Event.TheVariants.{Instruction, Interrupt, Exception, CharRead, Block, Net, Clock, Checkpoint, End}
+use Rattle.event_log.specs.declared.event.Event.TheVariants.{Instruction}
 use Rattle.board.specs.State.{State}
 use Rattle.board.specs.Turn.{turn}
 use Rattle.board.specs.Due.{due}
@@ -37,14 +37,7 @@ above-turns n (suc k) g all more =
 above-event : (n : ℕ) (g h : State) (e : Event) → step g e ≡ Some h → n < g.devices.time.count
     → Above n (before_event g e)
 above-event n g h (Instruction t) is more = above-turns n t g (step_ran t g h is).0 more
-above-event n g h Interrupt is more = (more, tt)
-above-event n g h Exception is more = (more, tt)
-above-event n g h (CharRead bytes) is more = (more, tt)
-above-event n g h (Block id ok) is more = (more, tt)
-above-event n g h (Net bytes) is more = (more, tt)
-above-event n g h (Clock value) is more = (more, tt)
-above-event n g h (Checkpoint idle) is more = (more, tt)
-above-event n g h (End reason code) is more = (more, tt)
+above-event n g h e is more = (more, tt)
 
 -- the states of a run whose first event is accepted
 states-more : (g h : State) (e : Event) (es : List Event) → step g e ≡ Some h
@@ -104,14 +97,7 @@ middle m g h last (Instruction t) es is then_to less =
           (above-turns n (t - suc m) (after (suc m) g) q.rest (omega (arith, q.count)))
           (above-states n es h last then_to later);
     }
-middle m g h last Interrupt es is then_to less = absurd (omega (arith, less))
-middle m g h last Exception es is then_to less = absurd (omega (arith, less))
-middle m g h last (CharRead bytes) es is then_to less = absurd (omega (arith, less))
-middle m g h last (Block id ok) es is then_to less = absurd (omega (arith, less))
-middle m g h last (Net bytes) es is then_to less = absurd (omega (arith, less))
-middle m g h last (Clock value) es is then_to less = absurd (omega (arith, less))
-middle m g h last (Checkpoint idle) es is then_to less = absurd (omega (arith, less))
-middle m g h last (End reason code) es is then_to less = absurd (omega (arith, less))
+middle m g h last e es is then_to less = absurd (omega (arith, less))
 
 abbrev some_state : State → Option State
 some_state g = Some g
