@@ -5,6 +5,8 @@
 #![tactic(auto)]
 
 mod debugging;
+#[cfg(test)]
+mod kept_tests;
 mod outcomes;
 #[cfg(test)]
 mod tests;
