@@ -4,7 +4,7 @@
 //! those that another tree owns too. Where it is refused midway, nodes without a sector may stay,
 //! which show nothing.
 
-ghost use Rattle.std.specs.Prelude.{◌≡◌, ◌==◌, if◌then◌else◌, ℕ, IfOk, OnOk, OnErr};
+ghost use Rattle.std.specs.Prelude.{◌≡◌, ◌==◌, if◌then◌else◌, ℕ, IfOk, IsSome, OnOk, OnErr};
 ghost use Rattle.std.specs.Option.{option_map};
 ghost use Rattle.std.specs.declared.option.Option.TheVariants.{Some};
 ghost use Rattle.overlay_disk.specs.Trees.{at_root, node_entries, entries_of, sector_in};
@@ -73,17 +73,18 @@ fn parts(tree: &Option<Rc<Node>>) -> Result<Node, NoMemory>
     }
 }
 
-/// The tree of a root with its branches.
-fn rooted(alloc: Global, node: Node) -> Result<Option<Rc<Node>>, NoMemory>
-    ensures { IfOk result (λ tree. entries_of tree ≡ node_entries node) }
+/// A root with its branches.
+fn rooted(alloc: Global, node: Node) -> Result<Rc<Node>, NoMemory>
+    ensures { IfOk result (λ root. node_entries root.value ≡ node_entries node) }
 {
-    let tree = Rc::new(alloc, node)?;
-    Ok(Some(tree))
+    let root = Rc::new(alloc, node)?;
+    Ok(root)
 }
 
 /// Gives a tree a root that it owns alone, which shows no sector more. What others own stays.
 fn own_root(alloc: Global, tree: &mut Option<Rc<Node>>) -> Result<(), NoMemory>
-    ensures { entries_of tree.new ≡ entries_of tree.old }
+    ensures root { OnOk result (IsSome tree.new) }
+    ensures same { entries_of tree.new ≡ entries_of tree.old }
 {
     let alone = match tree {
         Some(node) => Rc::strong_count(node) == 1,
@@ -91,7 +92,7 @@ fn own_root(alloc: Global, tree: &mut Option<Rc<Node>>) -> Result<(), NoMemory>
     };
     if !alone {
         let node = parts(tree)?;
-        *tree = rooted(alloc, node)?;
+        *tree = Some(rooted(alloc, node)?);
     }
     Ok(())
 }
@@ -108,9 +109,7 @@ pub(crate) fn put(
     ensures err { OnErr result (entries_of tree.new ≡ entries_of tree.old) }
 {
     own_root(alloc, tree)?;
-    let Some(root) = tree else {
-        return Err(AllocError);
-    };
+    let Some(root) = tree else { unreachable!() };
     let Some(node) = Rc::get_mut(root) else {
         return Err(AllocError);
     };

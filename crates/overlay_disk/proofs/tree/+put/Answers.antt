@@ -21,7 +21,7 @@ returns-then-sector-eq1-clause-ok t c =
     ∙ with_odd k s (option_map (λ s. s.value.bytes) n.here) (sector_in n.odd) (sector_in odd) (sector_in n.even) b c.if-sector-eq0.false c.if-sector-eq1.true wrote
     ∙ ap (cond (k == s) (Some b)) (sym (lookup-node c.in-Some-get_mut.node.now k)
     ∙ ap (λ n. lookup (is_at (nat_cmp k)) (node_entries n)) c.in-Some-get_mut.ensures.value
-    ∙ ap (λ t. sector_in t k) (sym c.in-Some.is) ∙ ap (lookup (is_at (nat_cmp k))) c.own_root.ensures))
+    ∙ ap (λ t. sector_in t k) (sym c.in-Some.is) ∙ ap (lookup (is_at (nat_cmp k))) c.own_root.ensures.same))
     c.put.ensures.ok
 
 pub returns-else-sector-eq1-clause-ok : goal.returns-else-sector-eq1-clause-ok
@@ -36,5 +36,5 @@ returns-else-sector-eq1-clause-ok t c =
     ∙ with_even k s (option_map (λ s. s.value.bytes) n.here) (sector_in n.odd) (sector_in n.even) (sector_in even) b c.if-sector-eq0.false c.if-sector-eq1.false wrote
     ∙ ap (cond (k == s) (Some b)) (sym (lookup-node c.in-Some-get_mut.node.now k)
     ∙ ap (λ n. lookup (is_at (nat_cmp k)) (node_entries n)) c.in-Some-get_mut.ensures.value
-    ∙ ap (λ t. sector_in t k) (sym c.in-Some.is) ∙ ap (lookup (is_at (nat_cmp k))) c.own_root.ensures))
+    ∙ ap (λ t. sector_in t k) (sym c.in-Some.is) ∙ ap (lookup (is_at (nat_cmp k))) c.own_root.ensures.same))
     c.put-else-sector-eq1.ensures.ok
